@@ -3,7 +3,8 @@ ghost use Rattle.std.specs.Prelude.{◌≡◌, ◌<◌, ◌≤◌, ◌∷◌, []
 ghost use Rattle.wiki_io.specs.declared.links.Event.{Event};
 ghost use Rattle.wiki_io.specs.Link.{with_more};
 ghost use Rattle.socket_link.specs.Moved.{MovedFits};
-ghost use Rattle.socket_link.specs.Told.{opening_of, piece_of};
+ghost use Rattle.socket_link.specs.Deeds.{Takes, Closes, Goes, with_deed};
+ghost use Rattle.socket_link.specs.Told.{opening_of, piece_of, with_time, with_opening, with_writing};
 
 use socket_link::{Accepted, Moved, Ready, Sockets};
 use std::alloc::Global;
@@ -160,6 +161,8 @@ impl Sockets for MemorySockets<'_> {
 
     ghost events = { λ _. None };
 
+    ghost deeds = { λ _. None };
+
     fn listen(&mut self, _address: &str) -> bool {
         !self.fails_now()
     }
@@ -242,6 +245,8 @@ impl Sockets for MemorySockets<'_> {
         self.read(number, &mut [0; 4])
     }
 
+    fn take(&mut self, _number: u32, _bytes: &[u8]) {}
+
     fn write(&mut self, number: u32, bytes: &[u8]) -> Moved {
         if self.fails_now() {
             return Moved::End;
@@ -259,6 +264,8 @@ impl Sockets for MemorySockets<'_> {
             Err(_) => Moved::End,
         }
     }
+
+    fn close(&mut self, _number: u32) {}
 
     fn shut(&mut self, number: u32) -> bool {
         if self.fails_now() {

@@ -1,1 +1,4 @@
+pub mod DeedLemmas
+pub mod RightLemmas
+pub mod SoundLemmas
 pub mod ToldLemmas

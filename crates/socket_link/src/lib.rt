@@ -8,6 +8,7 @@ mod numbers;
 mod place;
 mod places;
 mod socket;
+mod switchboard;
 mod tcp;
 
 pub use link::SocketLink;

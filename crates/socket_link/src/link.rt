@@ -4,6 +4,8 @@ ghost use Rattle.std.specs.Prelude.{None};
 ghost use Rattle.wiki_io.specs.Faults.{Rose};
 ghost use Rattle.wiki_io.specs.Link.{is_among, without, can_all_come, connections_after_all, event_in, NextFits, with_more, piece_taken, IsOver};
 ghost use Rattle.wiki_io.specs.Sink.{TookFits, IfTook};
+ghost use Rattle.socket_link.specs.Deeds.{sent_in, AreToldRight};
+ghost use Rattle.socket_link.specs.Kept.{IsFree};
 ghost use Rattle.socket_link.specs.Round.{HandsIn};
 
 use crate::place::Times;
@@ -22,7 +24,7 @@ use wiki_io::{Link, Listen, MOST_OPEN, Next, Took};
 /// it, where its socket fails, where its time is over, and where it has to make room; what waits on it is handed in before.
 /// What was taken to be sent is still written after the connection is closed, for 60 seconds at most.
 #[derive(Drop)]
-pub struct SocketLink<S> {
+pub struct SocketLink<S: Sockets> {
     places: Places<S>,
     connections: Vec<u32>,
     faults: u64,
@@ -55,10 +57,12 @@ impl<'a, R: Net + Clock> SocketLink<TcpSockets<'a, R>> {
 }
 
 impl<S: Sockets> SocketLink<S> {
-    /// A link without connections that listens nowhere yet.
+    /// A link without connections that listens nowhere yet, over sockets that have done nothing yet.
     pub fn over(alloc: Global, sockets: S, times: Times) -> Result<Self, Memory>
-        ensures events { IfOk result (λ link. S.events link.places.sockets ≡ S.events sockets) }
-        ensures listening { IfOk result (λ link. S.listens_at link.places.sockets ≡ S.listens_at sockets) }
+        requires { IfSome (S.deeds sockets) (λ deeds. deeds ≡ []) }
+        ensures events { IfOk result (λ link. S.events link.places.board.sockets ≡ S.events sockets) }
+        ensures sent { IfOk result (λ link. sent_in (S.deeds link.places.board.sockets) ≡ sent_in (S.deeds sockets)) }
+        ensures listening { IfOk result (λ link. S.listens_at link.places.board.sockets ≡ S.listens_at sockets) }
         ensures connections { IfOk result (λ link. link.connections.items ≡ []) }
         ensures faults { IfOk result (λ link. (link.faults ≡ 0) × (link.send_faults ≡ 0)) }
     {
@@ -72,8 +76,10 @@ impl<S: Sockets> SocketLink<S> {
 
     /// Waits until what was taken to be sent on closed connections is written, at most for about the time.
     pub fn finish(&mut self, time: Duration)
-        ensures events { S.events self.new.places.sockets ≡ S.events self.old.places.sockets }
-        ensures listening { S.listens_at self.new.places.sockets ≡ S.listens_at self.old.places.sockets }
+        ensures events { S.events self.new.places.board.sockets ≡ S.events self.old.places.board.sockets }
+        ensures sent { sent_in (S.deeds self.new.places.board.sockets) ≡ sent_in (S.deeds self.old.places.board.sockets) }
+        ensures listening { S.listens_at self.new.places.board.sockets ≡ S.listens_at self.old.places.board.sockets }
+        ensures right { ∥ AreToldRight (S.deeds self.new.places.board.sockets) ∥₁ }
     {
         self.places.finish(time)
     }
@@ -83,8 +89,9 @@ impl<S: Sockets> SocketLink<S> {
     fn hand_in(&mut self, buf: &mut [u8]) -> Next
         requires { 0 < length buf.old }
         ensures handed { HandsIn self.old.connections.items result buf.new self.new.connections.items }
-        ensures told { S.events self.new.places.sockets ≡ with_more (S.events self.old.places.sockets) (event_in result buf.new) }
-        ensures listening { S.listens_at self.new.places.sockets ≡ S.listens_at self.old.places.sockets }
+        ensures told { S.events self.new.places.board.sockets ≡ with_more (S.events self.old.places.board.sockets) (event_in result buf.new) }
+        ensures sent { sent_in (S.deeds self.new.places.board.sockets) ≡ sent_in (S.deeds self.old.places.board.sockets) }
+        ensures listening { S.listens_at self.new.places.board.sockets ≡ S.listens_at self.old.places.board.sockets }
         ensures room { length buf.new ≡ length buf.old }
         ensures faults { self.new.faults ≡ self.old.faults }
         ensures send_faults { self.new.send_faults ≡ self.old.send_faults }
@@ -106,14 +113,15 @@ impl<S: Sockets> SocketLink<S> {
     fn hear(&mut self, number: u32, buf: &mut [u8]) -> Next
         requires { 0 < length buf.old }
         ensures handed { HandsIn self.old.connections.items result buf.new self.new.connections.items }
-        ensures told { S.events self.new.places.sockets ≡ with_more (S.events self.old.places.sockets) (event_in result buf.new) }
-        ensures listening { S.listens_at self.new.places.sockets ≡ S.listens_at self.old.places.sockets }
+        ensures told { S.events self.new.places.board.sockets ≡ with_more (S.events self.old.places.board.sockets) (event_in result buf.new) }
+        ensures sent { sent_in (S.deeds self.new.places.board.sockets) ≡ sent_in (S.deeds self.old.places.board.sockets) }
+        ensures listening { S.listens_at self.new.places.board.sockets ≡ S.listens_at self.old.places.board.sockets }
         ensures room { length buf.new ≡ length buf.old }
         ensures faults { self.new.faults ≡ self.old.faults }
         ensures send_faults { self.new.send_faults ≡ self.old.send_faults }
     {
         if !self.connections.contains(&number) {
-            self.places.release(number);
+            self.places.pass_by(number);
             return Next::Over;
         }
         match self.places.hear(number, buf) {
@@ -131,8 +139,10 @@ impl<S: Sockets> SocketLink<S> {
     #[tactic(auto, using(crate::proofs::ToldLemmas::with_nothing))]
     fn let_in(&mut self) -> Next
         ensures handed { (buffer : List ℕ) → HandsIn self.old.connections.items result buffer self.new.connections.items }
-        ensures told { (buffer : List ℕ) → S.events self.new.places.sockets ≡ with_more (S.events self.old.places.sockets) (event_in result buffer) }
-        ensures listening { S.listens_at self.new.places.sockets ≡ S.listens_at self.old.places.sockets }
+        ensures told { (buffer : List ℕ)
+            → S.events self.new.places.board.sockets ≡ with_more (S.events self.old.places.board.sockets) (event_in result buffer) }
+        ensures sent { sent_in (S.deeds self.new.places.board.sockets) ≡ sent_in (S.deeds self.old.places.board.sockets) }
+        ensures listening { S.listens_at self.new.places.board.sockets ≡ S.listens_at self.old.places.board.sockets }
         ensures faults { self.new.faults ≡ self.old.faults }
         ensures send_faults { self.new.send_faults ≡ self.old.send_faults }
     {
@@ -154,9 +164,12 @@ impl<S: Sockets> SocketLink<S> {
     // Opens a connection, where no other has its number.
     #[tactic(auto, using(crate::proofs::ToldLemmas::with_nothing))]
     fn open(&mut self, number: u32) -> Next
+        requires { IsFree self.old.places.board.places.items number }
         ensures handed { (buffer : List ℕ) → HandsIn self.old.connections.items result buffer self.new.connections.items }
-        ensures told { (buffer : List ℕ) → S.events self.new.places.sockets ≡ with_more (S.events self.old.places.sockets) (event_in result buffer) }
-        ensures listening { S.listens_at self.new.places.sockets ≡ S.listens_at self.old.places.sockets }
+        ensures told { (buffer : List ℕ)
+            → S.events self.new.places.board.sockets ≡ with_more (S.events self.old.places.board.sockets) (event_in result buffer) }
+        ensures sent { sent_in (S.deeds self.new.places.board.sockets) ≡ sent_in (S.deeds self.old.places.board.sockets) }
+        ensures listening { S.listens_at self.new.places.board.sockets ≡ S.listens_at self.old.places.board.sockets }
         ensures faults { self.new.faults ≡ self.old.faults }
         ensures send_faults { self.new.send_faults ≡ self.old.send_faults }
     {
@@ -181,13 +194,13 @@ fn shut(connections: &mut Vec<u32>, connection: u32)
 impl<S: Sockets> Link for SocketLink<S> {
     ghost use Rattle.std.specs.Prelude.{None};
 
-    ghost listens_at = { λ l. S.listens_at l.places.sockets };
+    ghost listens_at = { λ l. S.listens_at l.places.board.sockets };
 
-    ghost handed = { λ l. S.events l.places.sockets };
+    ghost handed = { λ l. S.events l.places.board.sockets };
 
     ghost left = { λ _. None };
 
-    ghost sent = { λ _. None };
+    ghost sent = { λ l. sent_in (S.deeds l.places.board.sockets) };
 
     ghost connections = { λ l. l.connections.items };
 
@@ -204,7 +217,22 @@ impl<S: Sockets> Link for SocketLink<S> {
     }
 
     #[tactic(auto, using(crate::proofs::ToldLemmas::with_nothing))]
-    fn next(&mut self, buf: &mut [u8]) -> Next {
+    fn next(&mut self, buf: &mut [u8]) -> Next
+        requires { 0 < length buf.old }
+        ensures fits { NextFits result (length buf.old) }
+        ensures handed { S.events self.new.places.board.sockets ≡ with_more (S.events self.old.places.board.sockets) (event_in result buf.new) }
+        ensures comes { IsTrue (can_all_come self.old.connections.items (event_in result buf.new)) }
+        ensures connections { self.new.connections.items ≡ connections_after_all self.old.connections.items (event_in result buf.new) }
+        ensures listening { S.listens_at self.new.places.board.sockets ≡ S.listens_at self.old.places.board.sockets }
+        ensures sent { sent_in (S.deeds self.new.places.board.sockets) ≡ sent_in (S.deeds self.old.places.board.sockets) }
+        ensures over { result ≡ Next.Over → IsOver None }
+        ensures failed { result ≡ Next.Failed → Rose self.old.faults self.new.faults }
+        ensures faults { self.old.faults ≤ self.new.faults }
+        ensures send_faults { self.new.send_faults ≡ self.old.send_faults }
+
+        // Whatever its sockets did, each deed is right behind the earlier ones.
+        ensures right { ∥ AreToldRight (S.deeds self.new.places.board.sockets) ∥₁ }
+    {
         for _ in 0..u64::MAX {
             match self.hand_in(buf) {
                 Next::Over => {}
@@ -220,16 +248,18 @@ impl<S: Sockets> Link for SocketLink<S> {
         requires bytes { 0 < length bytes.now }
         requires is_open { IsTrue (is_among self.old.connections.items connection) }
         ensures fits { TookFits result (length bytes.now) }
-        ensures sent { None ≡ with_more None (piece_taken connection result bytes.now) }
-        ensures handed { S.events self.new.places.sockets ≡ S.events self.old.places.sockets }
+        ensures sent { sent_in (S.deeds self.new.places.board.sockets)
+            ≡ with_more (sent_in (S.deeds self.old.places.board.sockets)) (piece_taken connection result bytes.now) }
+        ensures handed { S.events self.new.places.board.sockets ≡ S.events self.old.places.board.sockets }
         ensures connections { self.new.connections.items ≡ self.old.connections.items }
-        ensures listening { S.listens_at self.new.places.sockets ≡ S.listens_at self.old.places.sockets }
+        ensures listening { S.listens_at self.new.places.board.sockets ≡ S.listens_at self.old.places.board.sockets }
         ensures failed { result ≡ Took.Failed → Rose self.old.send_faults self.new.send_faults }
         ensures send_faults { self.old.send_faults ≤ self.new.send_faults }
         ensures faults { self.new.faults ≡ self.old.faults }
 
         // Where it took bytes, it took all of them.
         ensures whole { IfTook result (λ size. size ≡ length bytes.now) }
+        ensures right { ∥ AreToldRight (S.deeds self.new.places.board.sockets) ∥₁ }
     {
         if !self.places.send(connection, bytes) {
             self.send_faults = self.send_faults.saturating_add(1);
@@ -238,7 +268,15 @@ impl<S: Sockets> Link for SocketLink<S> {
         Took::Bytes(bytes.len())
     }
 
-    fn close(&mut self, connection: u32) {
+    fn close(&mut self, connection: u32)
+        ensures connections { self.new.connections.items ≡ without connection self.old.connections.items }
+        ensures listening { S.listens_at self.new.places.board.sockets ≡ S.listens_at self.old.places.board.sockets }
+        ensures handed { S.events self.new.places.board.sockets ≡ S.events self.old.places.board.sockets }
+        ensures sent { sent_in (S.deeds self.new.places.board.sockets) ≡ sent_in (S.deeds self.old.places.board.sockets) }
+        ensures faults { self.new.faults ≡ self.old.faults }
+        ensures send_faults { self.new.send_faults ≡ self.old.send_faults }
+        ensures right { ∥ AreToldRight (S.deeds self.new.places.board.sockets) ∥₁ }
+    {
         shut(&mut self.connections, connection);
         self.places.close(connection);
     }

@@ -29,14 +29,6 @@ impl Numbers {
         }
         Some(from.saturating_add(rest.trailing_zeros()))
     }
-
-    /// The least number below 128 that isn't one of these.
-    pub(crate) fn first_missing(&self) -> Option<u32> {
-        if self.bits == u128::MAX {
-            return None;
-        }
-        Some(self.bits.trailing_ones())
-    }
 }
 
 // The set of this number alone; of none where it is too great.

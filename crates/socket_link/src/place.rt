@@ -1,7 +1,8 @@
 // One connection: how long it may stand, and what is still to be written to it.
-ghost use Rattle.std.specs.Prelude.{◌≡◌, ◌<◌, ◌≤◌, ◌+◌, ◌++◌, min, IsTrue, OnOk, length};
-ghost use Rattle.std.specs.Duration.{as_nanos, max_nanos};
+ghost use Rattle.std.specs.Prelude.{◌≡◌, ◌<◌, ◌≤◌, ◌++◌, [], IsTrue, OnOk, OnErr, false, length};
+ghost use Rattle.std.specs.Duration.{as_nanos};
 ghost use Rattle.wiki_io.specs.Link.{with_more};
+ghost use Rattle.socket_link.specs.Deeds.{end_of};
 ghost use Rattle.socket_link.specs.Moved.{MovedFits};
 ghost use Rattle.socket_link.specs.Told.{piece_of};
 
@@ -50,7 +51,13 @@ pub(crate) struct Place {
 }
 
 impl Place {
-    pub(crate) fn new(alloc: Global, now: Duration, times: Times) -> Place {
+    ghost use Rattle.socket_link.specs.Kept.{left_in, IsServed, OnlyOn, HasFailed, IsFreeToGo};
+
+    pub(crate) fn new(alloc: Global, now: Duration, times: Times) -> Place
+        ensures left { left_in result ≡ [] }
+        ensures closed { result.is_closed ≡ false }
+        ensures shut { result.is_shut ≡ false }
+    {
         Place {
             opened: now,
             heard: now,
@@ -72,12 +79,19 @@ impl Place {
         self.is_closed
     }
 
-    pub(crate) fn due(&self) -> Duration {
+    pub(crate) fn due(&self) -> Duration
+        ensures { result ≡ self.now.due }
+    {
         self.due
     }
 
     // It is to end as soon as nothing waits to be read.
-    pub(crate) fn leaves(&mut self) {
+    pub(crate) fn leaves(&mut self)
+        ensures left { left_in self.new ≡ left_in self.old }
+        ensures closed { self.new.is_closed ≡ self.old.is_closed }
+        ensures shut { self.new.is_shut ≡ self.old.is_shut }
+        ensures due { self.new.due ≡ self.old.due }
+    {
         self.is_leaving = true;
     }
 
@@ -114,6 +128,10 @@ impl Place {
         requires { 0 < length buf.old }
         ensures fits { MovedFits result (length buf.new) }
         ensures room { length buf.new ≡ length buf.old }
+        ensures left { left_in self.new ≡ left_in self.old }
+        ensures closed { self.new.is_closed ≡ self.old.is_closed }
+        ensures shut { self.new.is_shut ≡ self.old.is_shut }
+        ensures deeds { S.deeds sockets.new ≡ S.deeds sockets.old }
         ensures events { S.events sockets.new ≡ with_more (S.events sockets.old) (piece_of number result buf.new) }
         ensures listening { S.listens_at sockets.new ≡ S.listens_at sockets.old }
     {
@@ -133,10 +151,16 @@ impl Place {
 
     // Keeps all of the bytes, to be sent behind those that are kept.
     pub(crate) fn keep(&mut self, bytes: &[u8]) -> Result<(), AllocError>
-        ensures kept { OnOk result (self.new.unsent.items ≡ self.old.unsent.items ++ bytes.now) }
-        ensures written { self.new.written ≡ self.old.written }
+        ensures kept { OnOk result (left_in self.new ≡ left_in self.old ++ bytes.now) }
+        ensures unkept { OnErr result (left_in self.new ≡ left_in self.old) }
         ensures closed { self.new.is_closed ≡ self.old.is_closed }
+        ensures shut { self.new.is_shut ≡ self.old.is_shut }
+        ensures due { self.new.due ≡ self.old.due }
     {
+        if self.written >= self.unsent.len() {
+            self.unsent.clear();
+            self.written = 0;
+        }
         self.unsent.extend_from_slice(bytes)?;
         Ok(())
     }
@@ -144,29 +168,57 @@ impl Place {
     // Writes what the socket takes now; on a closed connection, before its time is over. False where it has failed.
     pub(crate) fn write<S: Sockets>(&mut self, sockets: &mut S, number: u32, now: Duration) -> bool
         requires in_time { IsTrue self.old.is_closed → as_nanos now < as_nanos self.old.due }
+        requires served { IsServed number self.old (as_nanos now) (S.deeds sockets.old) }
+        ensures served { IsServed number self.new (as_nanos now) (S.deeds sockets.new) }
+        ensures others { OnlyOn number (S.deeds sockets.old) (S.deeds sockets.new) }
+        ensures failed { result ≡ false → HasFailed number (S.deeds sockets.new) }
+        ensures closed { self.new.is_closed ≡ self.old.is_closed }
         ensures events { S.events sockets.new ≡ S.events sockets.old }
         ensures listening { S.listens_at sockets.new ≡ S.listens_at sockets.old }
     {
         for _ in 0..u64::MAX {
-            let rest = self.unsent.get(self.written..).unwrap_or(&[]);
-            if rest.is_empty() {
-                self.unsent.clear();
-                self.written = 0;
-                return true;
-            }
-            match sockets.write(number, rest) {
+            match self.write_some(sockets, number, now) {
                 Moved::Nothing => return true,
-                Moved::Bytes(size) => self.written = self.written.saturating_add(size),
+                Moved::Bytes(_) => {}
                 Moved::End => return false,
             }
         }
-        false
+        true
+    }
+
+    // One writing of what is left.
+    fn write_some<S: Sockets>(&mut self, sockets: &mut S, number: u32, now: Duration) -> Moved
+        requires in_time { IsTrue self.old.is_closed → as_nanos now < as_nanos self.old.due }
+        requires served { IsServed number self.old (as_nanos now) (S.deeds sockets.old) }
+        ensures served { IsServed number self.new (as_nanos now) (S.deeds sockets.new) }
+        ensures others { OnlyOn number (S.deeds sockets.old) (S.deeds sockets.new) }
+        ensures failed { result ≡ Moved.End → HasFailed number (S.deeds sockets.new) }
+        ensures closed { self.new.is_closed ≡ self.old.is_closed }
+        ensures due { self.new.due ≡ self.old.due }
+        ensures events { S.events sockets.new ≡ S.events sockets.old }
+        ensures listening { S.listens_at sockets.new ≡ S.listens_at sockets.old }
+    {
+        if self.written >= self.unsent.len() {
+            self.unsent.clear();
+            self.written = 0;
+            return Moved::Nothing;
+        }
+        match sockets.write(number, &self.unsent[self.written..]) {
+            Moved::Nothing => Moved::Nothing,
+            Moved::Bytes(size) => {
+                self.written += size;
+                Moved::Bytes(size)
+            }
+            Moved::End => Moved::End,
+        }
     }
 
     // What is kept may be written for sixty seconds.
     pub(crate) fn close(&mut self, now: Duration)
         ensures closed { IsTrue self.new.is_closed }
-        ensures due { as_nanos self.new.due ≡ min (as_nanos now + 60_000_000_000) max_nanos }
+        ensures due { as_nanos self.new.due ≡ end_of (as_nanos now) }
+        ensures left { left_in self.new ≡ left_in self.old }
+        ensures shut { self.new.is_shut ≡ self.old.is_shut }
     {
         self.is_closed = true;
         self.due = now.saturating_add(Duration::from_secs(WRITE_SECONDS));
@@ -180,25 +232,63 @@ impl Place {
         number: u32,
         now: Duration,
     ) -> bool
+        requires closed { IsTrue self.old.is_closed }
+        requires served { IsServed number self.old (as_nanos now) (S.deeds sockets.old) }
+        ensures served { IsServed number self.new (as_nanos now) (S.deeds sockets.new) }
+        ensures others { OnlyOn number (S.deeds sockets.old) (S.deeds sockets.new) }
+        ensures done { result ≡ false → IsFreeToGo number (S.deeds sockets.new) }
         ensures events { S.events sockets.new ≡ S.events sockets.old }
         ensures listening { S.listens_at sockets.new ≡ S.listens_at sockets.old }
     {
-        if self.due.as_nanos() <= now.as_nanos() || !self.write(sockets, number, now) {
+        let is_over = self.due.as_nanos() <= now.as_nanos();
+        if is_over {
             return false;
         }
-        if !self.is_shut && self.unsent.is_empty() {
-            if !sockets.shut(number) {
-                return false;
-            }
-            self.is_shut = true;
-            self.due = now.saturating_add(Duration::from_secs(DRAIN_SECONDS));
+        if !self.write(sockets, number, now) {
+            return false;
+        }
+        if !self.end_writing(sockets, number, now) {
+            return false;
         }
         self.drain(sockets, number);
-        !(self.is_shut && (self.has_ended || self.drained > MOST_DRAINED))
+        if !self.is_shut {
+            return true;
+        }
+        !self.has_ended && self.drained <= MOST_DRAINED
+    }
+
+    // Where all is written, ends the writing; then what comes is passed over for two seconds. False where that fails.
+    fn end_writing<S: Sockets>(&mut self, sockets: &mut S, number: u32, now: Duration) -> bool
+        requires closed { IsTrue self.old.is_closed }
+        requires served { IsServed number self.old (as_nanos now) (S.deeds sockets.old) }
+        ensures served { IsServed number self.new (as_nanos now) (S.deeds sockets.new) }
+        ensures others { OnlyOn number (S.deeds sockets.old) (S.deeds sockets.new) }
+        ensures done { result ≡ false → IsFreeToGo number (S.deeds sockets.new) }
+        ensures closed { self.new.is_closed ≡ self.old.is_closed }
+        ensures events { S.events sockets.new ≡ S.events sockets.old }
+        ensures listening { S.listens_at sockets.new ≡ S.listens_at sockets.old }
+    {
+        if self.is_shut {
+            return true;
+        }
+        if self.written < self.unsent.len() {
+            return true;
+        }
+        if !sockets.shut(number) {
+            return false;
+        }
+        self.is_shut = true;
+        self.due = now.saturating_add(Duration::from_secs(DRAIN_SECONDS));
+        true
     }
 
     // Passes over what has come.
     fn drain<S: Sockets>(&mut self, sockets: &mut S, number: u32)
+        ensures left { left_in self.new ≡ left_in self.old }
+        ensures closed { self.new.is_closed ≡ self.old.is_closed }
+        ensures shut { self.new.is_shut ≡ self.old.is_shut }
+        ensures due { self.new.due ≡ self.old.due }
+        ensures deeds { S.deeds sockets.new ≡ S.deeds sockets.old }
         ensures events { S.events sockets.new ≡ S.events sockets.old }
         ensures listening { S.listens_at sockets.new ≡ S.listens_at sockets.old }
     {

@@ -1,15 +1,18 @@
-// The places of the connections: which are taken, on which something may have come, and when the next one's time is over. The
-// work goes round: each round looks at what has become ready, and then each connection with something to be read has one turn,
-// and the listener one. Nothing here goes over all places but where a time is over or one has to go.
-ghost use Rattle.std.specs.Prelude.{◌≡◌, ◌<◌, ◌≤◌, ◌∷◌, [], IfOk, IsTrue, false, length};
+// Whose turn it is: on which connections something may have come, and when the next one's time is over. The work goes round: each
+// round looks at what has become ready, and then each connection with something to be read has one turn, and the listener one.
+// Nothing here goes over all places but where a time is over or one has to go.
+ghost use Rattle.std.specs.Prelude.{◌≡◌, ◌<◌, ◌≤◌, ◌∷◌, [], IfOk, IfSome, IsTrue, false, length};
 ghost use Rattle.wiki_io.specs.declared.links.Event.{Event};
 ghost use Rattle.wiki_io.specs.Link.{with_more};
+ghost use Rattle.socket_link.specs.Deeds.{sent_in};
+ghost use Rattle.socket_link.specs.Kept.{IsFree, IsOpenAt};
 ghost use Rattle.socket_link.specs.Moved.{MovedFits};
-ghost use Rattle.socket_link.specs.Told.{opening_of, piece_of};
+ghost use Rattle.socket_link.specs.Told.{opening_of, piece_of, taken_if};
 
 use crate::numbers::Numbers;
-use crate::place::{Place, Times};
+use crate::place::Times;
 use crate::socket::{Accepted, Moved, PLACES, Ready, Sockets};
+use crate::switchboard::Switchboard;
 use std::alloc::Global;
 use std::time::Duration;
 use wiki_base::Memory;
@@ -29,12 +32,9 @@ pub(crate) enum Turn {
 }
 
 #[derive(Drop)]
-pub(crate) struct Places<S> {
-    alloc: Global,
-    sockets: S,
+pub(crate) struct Places<S: Sockets> {
+    board: Switchboard<S>,
     times: Times,
-    places: Vec<Option<Place>>,
-    taken: Numbers,
     // the open connections on which something may have come, or whose time is over
     ready: Numbers,
     // no connection's time is over before this
@@ -45,51 +45,46 @@ pub(crate) struct Places<S> {
     waits: bool,
     has_guest: bool,
     is_full: bool,
-    now: Duration,
 }
 
 impl<S: Sockets> Places<S> {
     pub(crate) fn new(alloc: Global, sockets: S, times: Times) -> Result<Self, Memory>
-        ensures events { IfOk result (λ places. S.events places.sockets ≡ S.events sockets) }
-        ensures listening { IfOk result (λ places. S.listens_at places.sockets ≡ S.listens_at sockets) }
+        requires { IfSome (S.deeds sockets) (λ deeds. deeds ≡ []) }
+        ensures events { IfOk result (λ places. S.events places.board.sockets ≡ S.events sockets) }
+        ensures sent { IfOk result (λ places. sent_in (S.deeds places.board.sockets) ≡ sent_in (S.deeds sockets)) }
+        ensures listening { IfOk result (λ places. S.listens_at places.board.sockets ≡ S.listens_at sockets) }
     {
-        let mut places = Vec::with_capacity(alloc, PLACES as usize)?;
-        for _ in 0..PLACES {
-            places.push(None)?;
-        }
         Ok(Places {
-            alloc,
-            sockets,
+            board: Switchboard::new(alloc, sockets)?,
             times,
-            places,
-            taken: Numbers::none(),
             ready: Numbers::none(),
             due: None,
             turn: 0,
             waits: false,
             has_guest: false,
             is_full: false,
-            now: Duration::from_secs(0),
         })
     }
 
     pub(crate) fn sockets(&self) -> &S {
-        &self.sockets
+        self.board.sockets()
     }
 
     pub(crate) fn listen(&mut self, address: &str) -> bool
-        ensures ready { IsTrue result → IsTrue (S.listens_at self.new.sockets address.now) }
-        ensures unready { result ≡ false → S.listens_at self.new.sockets ≡ S.listens_at self.old.sockets }
-        ensures events { S.events self.new.sockets ≡ S.events self.old.sockets }
+        ensures ready { IsTrue result → IsTrue (S.listens_at self.new.board.sockets address.now) }
+        ensures unready { result ≡ false → S.listens_at self.new.board.sockets ≡ S.listens_at self.old.board.sockets }
+        ensures events { S.events self.new.board.sockets ≡ S.events self.old.board.sockets }
+        ensures sent { sent_in (S.deeds self.new.board.sockets) ≡ sent_in (S.deeds self.old.board.sockets) }
     {
-        self.waits = self.sockets.listen(address);
+        self.waits = self.board.listen(address);
         self.waits
     }
 
     // Whose turn comes next in this round.
     pub(crate) fn next_turn(&mut self) -> Turn
-        ensures events { S.events self.new.sockets ≡ S.events self.old.sockets }
-        ensures listening { S.listens_at self.new.sockets ≡ S.listens_at self.old.sockets }
+        ensures events { S.events self.new.board.sockets ≡ S.events self.old.board.sockets }
+        ensures sent { sent_in (S.deeds self.new.board.sockets) ≡ sent_in (S.deeds self.old.board.sockets) }
+        ensures listening { S.listens_at self.new.board.sockets ≡ S.listens_at self.old.board.sockets }
     {
         if let Some(number) = self.ready.first_from(self.turn) {
             self.turn = number.saturating_add(1);
@@ -111,8 +106,9 @@ impl<S: Sockets> Places<S> {
     // Begins a round: waits until something is ready or the first of the times is up, and not at all where somebody's turn
     // comes anyway. False where that fails.
     pub(crate) fn next_round(&mut self) -> bool
-        ensures events { S.events self.new.sockets ≡ S.events self.old.sockets }
-        ensures listening { S.listens_at self.new.sockets ≡ S.listens_at self.old.sockets }
+        ensures events { S.events self.new.board.sockets ≡ S.events self.old.board.sockets }
+        ensures sent { sent_in (S.deeds self.new.board.sockets) ≡ sent_in (S.deeds self.old.board.sockets) }
+        ensures listening { S.listens_at self.new.board.sockets ≡ S.listens_at self.old.board.sockets }
     {
         if self.ready.first_from(0).is_some() || self.may_accept() {
             return self.wait(Some(Duration::from_secs(0)));
@@ -123,13 +119,14 @@ impl<S: Sockets> Places<S> {
 
     // Waits for the time at most, notes what has become ready, and goes on with what is closed.
     fn wait(&mut self, time: Option<Duration>) -> bool
-        ensures events { S.events self.new.sockets ≡ S.events self.old.sockets }
-        ensures listening { S.listens_at self.new.sockets ≡ S.listens_at self.old.sockets }
+        ensures events { S.events self.new.board.sockets ≡ S.events self.old.board.sockets }
+        ensures sent { sent_in (S.deeds self.new.board.sockets) ≡ sent_in (S.deeds self.old.board.sockets) }
+        ensures listening { S.listens_at self.new.board.sockets ≡ S.listens_at self.old.board.sockets }
     {
-        let Some(ready) = self.sockets.wait(time) else {
+        let Some(ready) = self.board.wait(time) else {
             return false;
         };
-        self.read_clock();
+        self.board.read_clock();
         self.turn = 0;
         self.is_full = false;
         self.waits = self.waits || ready.listener;
@@ -138,16 +135,10 @@ impl<S: Sockets> Places<S> {
         true
     }
 
-    fn read_clock(&mut self)
-        ensures events { S.events self.new.sockets ≡ S.events self.old.sockets }
-        ensures listening { S.listens_at self.new.sockets ≡ S.listens_at self.old.sockets }
-    {
-        self.now = self.sockets.now().unwrap_or(self.now);
-    }
-
     fn become_ready(&mut self, ready: Ready)
-        ensures events { S.events self.new.sockets ≡ S.events self.old.sockets }
-        ensures listening { S.listens_at self.new.sockets ≡ S.listens_at self.old.sockets }
+        ensures events { S.events self.new.board.sockets ≡ S.events self.old.board.sockets }
+        ensures sent { sent_in (S.deeds self.new.board.sockets) ≡ sent_in (S.deeds self.old.board.sockets) }
+        ensures listening { S.listens_at self.new.board.sockets ≡ S.listens_at self.old.board.sockets }
     {
         let mut from = 0;
         for _ in 0..PLACES {
@@ -161,29 +152,30 @@ impl<S: Sockets> Places<S> {
 
     // Something may be read from the connection's socket, or written to it.
     fn becomes_ready(&mut self, number: u32)
-        ensures events { S.events self.new.sockets ≡ S.events self.old.sockets }
-        ensures listening { S.listens_at self.new.sockets ≡ S.listens_at self.old.sockets }
+        ensures events { S.events self.new.board.sockets ≡ S.events self.old.board.sockets }
+        ensures sent { sent_in (S.deeds self.new.board.sockets) ≡ sent_in (S.deeds self.old.board.sockets) }
+        ensures listening { S.listens_at self.new.board.sockets ≡ S.listens_at self.old.board.sockets }
     {
-        let Some(Some(place)) = self.places.get_mut(number as usize) else {
+        let Some(place) = self.board.place(number) else {
             return;
         };
         if place.is_closed() {
             self.wind_up(number);
-            return;
+        } else {
+            self.board.write(number);
+            self.ready.insert(number);
         }
-        // Where writing fails, the next reading finds it.
-        place.write(&mut self.sockets, number, self.now);
-        self.ready.insert(number);
     }
 
     // How long a wait may last: until a connection's time is over, or until one is accepted again.
     fn time_left(&mut self) -> Option<Duration>
-        ensures events { S.events self.new.sockets ≡ S.events self.old.sockets }
-        ensures listening { S.listens_at self.new.sockets ≡ S.listens_at self.old.sockets }
+        ensures events { S.events self.new.board.sockets ≡ S.events self.old.board.sockets }
+        ensures sent { sent_in (S.deeds self.new.board.sockets) ≡ sent_in (S.deeds self.old.board.sockets) }
+        ensures listening { S.listens_at self.new.board.sockets ≡ S.listens_at self.old.board.sockets }
     {
-        self.read_clock();
+        self.board.read_clock();
         let left = match self.due {
-            Some(due) => Some(due.saturating_sub(self.now)),
+            Some(due) => Some(due.saturating_sub(self.board.now())),
             None => None,
         };
         let retry = Duration::from_secs(RETRY);
@@ -195,10 +187,12 @@ impl<S: Sockets> Places<S> {
 
     // Where a time is over, has the open connections heard whose time that is, and lets the sockets of closed ones go.
     fn look_over(&mut self)
-        ensures events { S.events self.new.sockets ≡ S.events self.old.sockets }
-        ensures listening { S.listens_at self.new.sockets ≡ S.listens_at self.old.sockets }
+        ensures events { S.events self.new.board.sockets ≡ S.events self.old.board.sockets }
+        ensures sent { sent_in (S.deeds self.new.board.sockets) ≡ sent_in (S.deeds self.old.board.sockets) }
+        ensures listening { S.listens_at self.new.board.sockets ≡ S.listens_at self.old.board.sockets }
     {
-        if self.due.is_none_or(|due| due > self.now) {
+        let now = self.board.now();
+        if self.due.is_none_or(|due| due > now) {
             return;
         }
         self.due = None;
@@ -208,17 +202,18 @@ impl<S: Sockets> Places<S> {
     }
 
     fn look_at(&mut self, number: u32)
-        ensures events { S.events self.new.sockets ≡ S.events self.old.sockets }
-        ensures listening { S.listens_at self.new.sockets ≡ S.listens_at self.old.sockets }
+        ensures events { S.events self.new.board.sockets ≡ S.events self.old.board.sockets }
+        ensures sent { sent_in (S.deeds self.new.board.sockets) ≡ sent_in (S.deeds self.old.board.sockets) }
+        ensures listening { S.listens_at self.new.board.sockets ≡ S.listens_at self.old.board.sockets }
     {
-        let Some(Some(place)) = self.places.get(number as usize) else {
+        let Some(place) = self.board.place(number) else {
             return;
         };
-        let due = place.due();
-        if due > self.now {
+        let (due, is_closed) = (place.due(), place.is_closed());
+        if due > self.board.now() {
             self.note_due(due);
-        } else if place.is_closed() {
-            self.release(number);
+        } else if is_closed {
+            self.wind_up(number);
         } else {
             self.ready.insert(number);
         }
@@ -226,23 +221,37 @@ impl<S: Sockets> Places<S> {
 
     // A connection's time is over then.
     fn note_due(&mut self, time: Duration)
-        ensures events { S.events self.new.sockets ≡ S.events self.old.sockets }
-        ensures listening { S.listens_at self.new.sockets ≡ S.listens_at self.old.sockets }
+        ensures events { S.events self.new.board.sockets ≡ S.events self.old.board.sockets }
+        ensures sent { sent_in (S.deeds self.new.board.sockets) ≡ sent_in (S.deeds self.old.board.sockets) }
+        ensures listening { S.listens_at self.new.board.sockets ≡ S.listens_at self.old.board.sockets }
     {
         if self.due.is_none_or(|due| due > time) {
             self.due = Some(time);
         }
     }
 
+    // A connection's time is over when its place says so.
+    fn note_place(&mut self, number: u32)
+        ensures events { S.events self.new.board.sockets ≡ S.events self.old.board.sockets }
+        ensures sent { sent_in (S.deeds self.new.board.sockets) ≡ sent_in (S.deeds self.old.board.sockets) }
+        ensures listening { S.listens_at self.new.board.sockets ≡ S.listens_at self.old.board.sockets }
+    {
+        if let Some(place) = self.board.place(number) {
+            let due = place.due();
+            self.note_due(due);
+        }
+    }
+
     // Has a socket for one who waits, if one does.
     pub(crate) fn accept(&mut self) -> Accepted
-        ensures events { S.events self.new.sockets ≡ S.events self.old.sockets }
-        ensures listening { S.listens_at self.new.sockets ≡ S.listens_at self.old.sockets }
+        ensures events { S.events self.new.board.sockets ≡ S.events self.old.board.sockets }
+        ensures sent { sent_in (S.deeds self.new.board.sockets) ≡ sent_in (S.deeds self.old.board.sockets) }
+        ensures listening { S.listens_at self.new.board.sockets ≡ S.listens_at self.old.board.sockets }
     {
         if self.has_guest {
             return Accepted::Guest;
         }
-        let accepted = self.sockets.accept();
+        let accepted = self.board.accept();
         match accepted {
             Accepted::Guest => self.has_guest = true,
             Accepted::Nobody => self.waits = false,
@@ -255,34 +264,27 @@ impl<S: Sockets> Places<S> {
     // A number for the socket that was accepted last. Where all places are taken, the closed connection whose time is over
     // first loses its socket.
     pub(crate) fn free_number(&mut self) -> Option<u32>
-        ensures events { S.events self.new.sockets ≡ S.events self.old.sockets }
-        ensures listening { S.listens_at self.new.sockets ≡ S.listens_at self.old.sockets }
+        ensures free { IfSome result (λ number. IsFree self.new.board.places.items number) }
+        ensures events { S.events self.new.board.sockets ≡ S.events self.old.board.sockets }
+        ensures sent { sent_in (S.deeds self.new.board.sockets) ≡ sent_in (S.deeds self.old.board.sockets) }
+        ensures listening { S.listens_at self.new.board.sockets ≡ S.listens_at self.old.board.sockets }
     {
-        if let Some(number) = self.taken.first_missing() {
-            return Some(number);
-        }
-        let number = self.first_to_go(true)?;
-        self.release(number);
-        Some(number)
+        self.board.free_number()
     }
 
     // Names the socket that was accepted last. False where that fails.
     pub(crate) fn settle(&mut self, number: u32) -> bool
-        ensures events { S.events self.new.sockets ≡ with_more (S.events self.old.sockets) (opening_of number result) }
-        ensures listening { S.listens_at self.new.sockets ≡ S.listens_at self.old.sockets }
+        requires { IsFree self.old.board.places.items number }
+        ensures events { S.events self.new.board.sockets ≡ with_more (S.events self.old.board.sockets) (opening_of number result) }
+        ensures sent { sent_in (S.deeds self.new.board.sockets) ≡ sent_in (S.deeds self.old.board.sockets) }
+        ensures listening { S.listens_at self.new.board.sockets ≡ S.listens_at self.old.board.sockets }
     {
         self.has_guest = false;
-        if !self.sockets.settle(number) {
-            self.sockets.release(number);
+        self.is_full = false;
+        if !self.board.settle(number, self.times) {
             return false;
         }
-        self.read_clock();
-        let place = Place::new(self.alloc, self.now, self.times);
-        self.note_due(place.due());
-        if let Some(free) = self.places.get_mut(number as usize) {
-            *free = Some(place);
-        }
-        self.taken.insert(number);
+        self.note_place(number);
         self.ready.insert(number);
         true
     }
@@ -290,47 +292,13 @@ impl<S: Sockets> Places<S> {
     // One of the open connections is to end, if none is already: one on which no empty line has come before others, and that
     // on which nothing has come for longest.
     pub(crate) fn make_room(&mut self)
-        ensures events { S.events self.new.sockets ≡ S.events self.old.sockets }
-        ensures listening { S.listens_at self.new.sockets ≡ S.listens_at self.old.sockets }
+        ensures events { S.events self.new.board.sockets ≡ S.events self.old.board.sockets }
+        ensures sent { sent_in (S.deeds self.new.board.sockets) ≡ sent_in (S.deeds self.old.board.sockets) }
+        ensures listening { S.listens_at self.new.board.sockets ≡ S.listens_at self.old.board.sockets }
     {
-        let Some(number) = self.first_to_go(false) else {
-            return;
-        };
-        if let Some(Some(place)) = self.places.get_mut(number as usize) {
-            place.leaves();
+        if let Some(number) = self.board.first_to_go(false) {
+            self.board.leaves(number);
             self.ready.insert(number);
-        }
-    }
-
-    // Of the closed or of the open connections the first that is to go.
-    fn first_to_go(&self, is_closed: bool) -> Option<u32> {
-        let mut found: Option<u32> = None;
-        for number in 0..PLACES {
-            if self.goes_before(number, found, is_closed) {
-                found = Some(number);
-            }
-        }
-        found
-    }
-
-    // It is closed or open, as is asked for, and goes before the other.
-    fn goes_before(&self, number: u32, other: Option<u32>, is_closed: bool) -> bool {
-        let Some(place) = self.place(number) else {
-            return false;
-        };
-        if place.is_closed() != is_closed {
-            return false;
-        }
-        match other.and_then(|found| self.place(found)) {
-            Some(found) => place.goes_before(found, self.now),
-            None => true,
-        }
-    }
-
-    fn place(&self, number: u32) -> Option<&Place> {
-        match self.places.get(number as usize) {
-            Some(Some(place)) => Some(place),
-            _ => None,
         }
     }
 
@@ -339,118 +307,100 @@ impl<S: Sockets> Places<S> {
         requires { 0 < length buf.old }
         ensures fits { MovedFits result (length buf.new) }
         ensures room { length buf.new ≡ length buf.old }
-        ensures events { S.events self.new.sockets ≡ with_more (S.events self.old.sockets) (piece_of number result buf.new) }
-        ensures listening { S.listens_at self.new.sockets ≡ S.listens_at self.old.sockets }
+        ensures ended { result ≡ Moved.End → IsOpenAt self.new.board.places.items number }
+        ensures events { S.events self.new.board.sockets ≡ with_more (S.events self.old.board.sockets) (piece_of number result buf.new) }
+        ensures sent { sent_in (S.deeds self.new.board.sockets) ≡ sent_in (S.deeds self.old.board.sockets) }
+        ensures listening { S.listens_at self.new.board.sockets ≡ S.listens_at self.old.board.sockets }
     {
-        self.read_clock();
-        let Some(Some(place)) = self.places.get_mut(number as usize) else {
-            return Moved::End;
-        };
-        let heard = place.hear(&mut self.sockets, number, buf, self.now, self.times);
-        let due = place.due();
+        self.board.read_clock();
+        let heard = self.board.hear(number, buf, self.times);
         match heard {
             Moved::Nothing => self.ready.remove(number),
-            _ => self.note_due(due),
+            Moved::Bytes(_) => self.note_place(number),
+            Moved::End => {}
         }
         heard
     }
 
-    // Keeps the bytes of an open connection and writes what its socket takes at once. False for want of memory, or where the
-    // socket has failed.
-    pub(crate) fn send(&mut self, number: u32, bytes: &[u8]) -> bool
-        ensures events { S.events self.new.sockets ≡ S.events self.old.sockets }
-        ensures listening { S.listens_at self.new.sockets ≡ S.listens_at self.old.sockets }
+    // It has no turn until something comes.
+    pub(crate) fn pass_by(&mut self, number: u32)
+        ensures events { S.events self.new.board.sockets ≡ S.events self.old.board.sockets }
+        ensures sent { sent_in (S.deeds self.new.board.sockets) ≡ sent_in (S.deeds self.old.board.sockets) }
+        ensures listening { S.listens_at self.new.board.sockets ≡ S.listens_at self.old.board.sockets }
     {
-        let Some(Some(place)) = self.places.get_mut(number as usize) else {
+        self.ready.remove(number);
+    }
+
+    // Keeps the bytes of an open connection and writes what its socket takes at once. False where there is no such connection,
+    // and for want of memory.
+    pub(crate) fn send(&mut self, number: u32, bytes: &[u8]) -> bool
+        ensures sent { sent_in (S.deeds self.new.board.sockets)
+            ≡ with_more (sent_in (S.deeds self.old.board.sockets)) (taken_if result number bytes.now) }
+        ensures events { S.events self.new.board.sockets ≡ S.events self.old.board.sockets }
+        ensures listening { S.listens_at self.new.board.sockets ≡ S.listens_at self.old.board.sockets }
+    {
+        if !self.board.take(number, bytes) {
             return false;
-        };
-        !place.is_closed()
-            && place.keep(bytes).is_ok()
-            && place.write(&mut self.sockets, number, self.now)
+        }
+        self.board.write(number);
+        true
     }
 
     // The connection is closed; its socket goes once all is written and what comes was passed over.
     pub(crate) fn close(&mut self, number: u32)
-        ensures events { S.events self.new.sockets ≡ S.events self.old.sockets }
-        ensures listening { S.listens_at self.new.sockets ≡ S.listens_at self.old.sockets }
+        ensures events { S.events self.new.board.sockets ≡ S.events self.old.board.sockets }
+        ensures sent { sent_in (S.deeds self.new.board.sockets) ≡ sent_in (S.deeds self.old.board.sockets) }
+        ensures listening { S.listens_at self.new.board.sockets ≡ S.listens_at self.old.board.sockets }
     {
         self.ready.remove(number);
-        self.read_clock();
-        if let Some(Some(place)) = self.places.get_mut(number as usize) {
-            place.close(self.now);
-            self.wind_up(number);
-        }
+        self.board.read_clock();
+        self.board.close(number);
+        self.wind_up(number);
     }
 
+    // Goes on with a closed connection.
     fn wind_up(&mut self, number: u32)
-        ensures events { S.events self.new.sockets ≡ S.events self.old.sockets }
-        ensures listening { S.listens_at self.new.sockets ≡ S.listens_at self.old.sockets }
+        ensures events { S.events self.new.board.sockets ≡ S.events self.old.board.sockets }
+        ensures sent { sent_in (S.deeds self.new.board.sockets) ≡ sent_in (S.deeds self.old.board.sockets) }
+        ensures listening { S.listens_at self.new.board.sockets ≡ S.listens_at self.old.board.sockets }
     {
-        let Some(Some(place)) = self.places.get_mut(number as usize) else {
-            return;
-        };
-        if place.wind_up(&mut self.sockets, number, self.now) {
-            let due = place.due();
-            self.note_due(due);
+        if self.board.wind_up(number) {
+            self.note_place(number);
         } else {
-            self.release(number);
+            self.is_full = false;
         }
     }
 
     // The socket of an open connection goes.
     pub(crate) fn end(&mut self, number: u32)
-        ensures events { S.events self.new.sockets ≡ with_more (S.events self.old.sockets) (Event.Ended number ∷ []) }
-        ensures listening { S.listens_at self.new.sockets ≡ S.listens_at self.old.sockets }
+        requires { IsOpenAt self.old.board.places.items number }
+        ensures events { S.events self.new.board.sockets ≡ with_more (S.events self.old.board.sockets) (Event.Ended number ∷ []) }
+        ensures sent { sent_in (S.deeds self.new.board.sockets) ≡ sent_in (S.deeds self.old.board.sockets) }
+        ensures listening { S.listens_at self.new.board.sockets ≡ S.listens_at self.old.board.sockets }
     {
-        self.sockets.end(number);
-        self.clear(number);
-    }
-
-    // The socket of a closed connection goes.
-    pub(crate) fn release(&mut self, number: u32)
-        ensures events { S.events self.new.sockets ≡ S.events self.old.sockets }
-        ensures listening { S.listens_at self.new.sockets ≡ S.listens_at self.old.sockets }
-    {
-        self.sockets.release(number);
-        self.clear(number);
-    }
-
-    fn clear(&mut self, number: u32)
-        ensures events { S.events self.new.sockets ≡ S.events self.old.sockets }
-        ensures listening { S.listens_at self.new.sockets ≡ S.listens_at self.old.sockets }
-    {
-        if let Some(place) = self.places.get_mut(number as usize) {
-            *place = None;
-        }
+        self.board.end(number);
         self.ready.remove(number);
-        self.taken.remove(number);
         self.is_full = false;
     }
 
     // Waits until no closed connection has its socket any more, at most for about the time.
     pub(crate) fn finish(&mut self, time: Duration)
-        ensures events { S.events self.new.sockets ≡ S.events self.old.sockets }
-        ensures listening { S.listens_at self.new.sockets ≡ S.listens_at self.old.sockets }
+        ensures events { S.events self.new.board.sockets ≡ S.events self.old.board.sockets }
+        ensures sent { sent_in (S.deeds self.new.board.sockets) ≡ sent_in (S.deeds self.old.board.sockets) }
+        ensures listening { S.listens_at self.new.board.sockets ≡ S.listens_at self.old.board.sockets }
     {
-        self.read_clock();
-        let end = self.now.saturating_add(time);
+        self.board.read_clock();
+        let end = self.board.now().saturating_add(time);
         for _ in 0..u64::MAX {
             let first = self.time_left();
-            let left = end.saturating_sub(self.now);
+            let left = end.saturating_sub(self.board.now());
             let wait = match first {
                 Some(due) if due < left => due,
                 _ => left,
             };
-            if left.is_zero() || !self.is_winding_up() || !self.wait(Some(wait)) {
+            if left.is_zero() || !self.board.is_winding_up() || !self.wait(Some(wait)) {
                 return;
             }
         }
-    }
-
-    fn is_winding_up(&self) -> bool {
-        self.places.iter().any(|place| match place {
-            Some(kept) => kept.is_closed(),
-            None => false,
-        })
     }
 }

@@ -3,7 +3,8 @@ ghost use Rattle.std.specs.Prelude.{◌≡◌, ◌<◌, ◌≤◌, ◌∷◌, []
 ghost use Rattle.wiki_io.specs.declared.links.Event.{Event};
 ghost use Rattle.wiki_io.specs.Link.{with_more};
 ghost use Rattle.socket_link.specs.Moved.{MovedFits};
-ghost use Rattle.socket_link.specs.Told.{opening_of, piece_of};
+ghost use Rattle.socket_link.specs.Deeds.{Deed, Takes, Closes, Goes, with_deed};
+ghost use Rattle.socket_link.specs.Told.{opening_of, piece_of, with_time, with_opening, with_writing};
 
 use crate::numbers::Numbers;
 use std::io;
@@ -106,30 +107,38 @@ pub trait Sockets: Drop {
     /// is open goes. What is passed over is no part of it.
     ghost events: { Self → Option (List Event) };
 
+    /// What the sockets did, the newest deed first, where they tell it: what they were to write, what they wrote, and when.
+    ghost deeds: { Self → Option (List Deed) };
+
     /// Begins to listen at the address. False where that fails, and then they listen where they did before.
     fn listen(&mut self, address: &str) -> bool
         ensures ready { IsTrue result → IsTrue (listens_at self.new address.now) }
         ensures unready { result ≡ false → listens_at self.new ≡ listens_at self.old }
-        ensures events { events self.new ≡ events self.old };
+        ensures events { events self.new ≡ events self.old }
+        ensures deeds { deeds self.new ≡ deeds self.old };
 
     /// The time since some start. None where there is no telling.
     fn now(&mut self) -> Option<Duration>
         ensures events { events self.new ≡ events self.old }
+        ensures deeds { deeds self.new ≡ with_time (deeds self.old) result }
         ensures listening { listens_at self.new ≡ listens_at self.old };
 
     /// Waits until something becomes ready, or for the time at most. None where that fails.
     fn wait(&mut self, time: Option<Duration>) -> Option<Ready>
         ensures events { events self.new ≡ events self.old }
+        ensures deeds { deeds self.new ≡ deeds self.old }
         ensures listening { listens_at self.new ≡ listens_at self.old };
 
     /// Gives a socket to one who waits at the listener.
     fn accept(&mut self) -> Accepted
         ensures events { events self.new ≡ events self.old }
+        ensures deeds { deeds self.new ≡ deeds self.old }
         ensures listening { listens_at self.new ≡ listens_at self.old };
 
     /// Names the socket that was accepted last by a number that no other has. False where that fails, and it goes.
     fn settle(&mut self, number: u32) -> bool
         ensures events { events self.new ≡ with_more (events self.old) (opening_of number result) }
+        ensures deeds { deeds self.new ≡ with_opening (deeds self.old) number result }
         ensures listening { listens_at self.new ≡ listens_at self.old };
 
     /// Reads what has come into the front of the buffer.
@@ -138,11 +147,19 @@ pub trait Sockets: Drop {
         ensures fits { MovedFits result (length buf.new) }
         ensures room { length buf.new ≡ length buf.old }
         ensures events { events self.new ≡ with_more (events self.old) (piece_of number result buf.new) }
+        ensures deeds { deeds self.new ≡ deeds self.old }
         ensures listening { listens_at self.new ≡ listens_at self.old };
 
     /// Reads what has come and passes it over.
     fn pass_over(&mut self, number: u32) -> Moved
         ensures events { events self.new ≡ events self.old }
+        ensures deeds { deeds self.new ≡ deeds self.old }
+        ensures listening { listens_at self.new ≡ listens_at self.old };
+
+    /// Is told that these bytes are to be written to the socket, behind those before. Nothing is done with them yet.
+    fn take(&mut self, number: u32, bytes: &[u8])
+        ensures events { events self.new ≡ events self.old }
+        ensures deeds { deeds self.new ≡ with_deed (deeds self.old) (Takes number bytes.now) }
         ensures listening { listens_at self.new ≡ listens_at self.old };
 
     /// Writes from the front of the bytes what the socket takes now.
@@ -150,20 +167,30 @@ pub trait Sockets: Drop {
         requires { 0 < length bytes.now }
         ensures fits { MovedFits result (length bytes.now) }
         ensures events { events self.new ≡ events self.old }
+        ensures deeds { deeds self.new ≡ with_writing (deeds self.old) number result bytes.now }
+        ensures listening { listens_at self.new ≡ listens_at self.old };
+
+    /// Is told that the connection is closed: what is to be written to its socket is all there. Nothing is done yet.
+    fn close(&mut self, number: u32)
+        ensures events { events self.new ≡ events self.old }
+        ensures deeds { deeds self.new ≡ with_deed (deeds self.old) (Closes number) }
         ensures listening { listens_at self.new ≡ listens_at self.old };
 
     /// Nothing more is written. False where that fails.
     fn shut(&mut self, number: u32) -> bool
         ensures events { events self.new ≡ events self.old }
+        ensures deeds { deeds self.new ≡ deeds self.old }
         ensures listening { listens_at self.new ≡ listens_at self.old };
 
     /// The socket of an open connection goes.
     fn end(&mut self, number: u32)
         ensures events { events self.new ≡ with_more (events self.old) (Event.Ended number ∷ []) }
+        ensures deeds { deeds self.new ≡ with_deed (deeds self.old) (Goes number) }
         ensures listening { listens_at self.new ≡ listens_at self.old };
 
     /// The socket of a closed connection goes.
     fn release(&mut self, number: u32)
         ensures events { events self.new ≡ events self.old }
+        ensures deeds { deeds self.new ≡ with_deed (deeds self.old) (Goes number) }
         ensures listening { listens_at self.new ≡ listens_at self.old };
 }

@@ -1,15 +1,15 @@
 // The sockets of the system. Its calls don't wait, so they aren't interrupted.
-ghost use Rattle.std.specs.Prelude.{◌≡◌, ◌<◌, ◌≤◌, ◌∷◌, [], IsTrue, OnOk, OnErr, is_some, length};
+ghost use Rattle.std.specs.Prelude.{◌≡◌, ◌<◌, ◌≤◌, ◌∷◌, [], IsTrue, None, is_some, length};
 ghost use Rattle.wiki_io.specs.declared.links.Event.{Event};
-ghost use Rattle.wiki_io.specs.Link.{with_more};
+ghost use Rattle.wiki_io.specs.Link.{listens_anywhere, with_more};
 ghost use Rattle.socket_link.specs.Moved.{MovedFits};
-ghost use Rattle.socket_link.specs.Told.{opening_of, piece_of};
+ghost use Rattle.socket_link.specs.Deeds.{Takes, Closes, Goes, with_deed};
+ghost use Rattle.socket_link.specs.Told.{opening_of, piece_of, with_time, with_opening, with_writing};
 
 use crate::socket::{Accepted, Moved, PLACES, Ready, Sockets};
 use mio::net::{TcpListener, TcpStream};
 use mio::{Events, Interest, Poll, Token};
 use std::alloc::Global;
-use std::io;
 use std::io::{ErrorKind, Read, Write};
 use std::net::{Net, Shutdown, SocketAddr, ToSocketAddrs};
 use std::time::{Clock, Duration};
@@ -19,8 +19,7 @@ use wiki_base::Memory;
 #[derive(Drop)]
 pub struct TcpSockets<'a, R> {
     host: &'a R,
-    poll: Option<Poll>,
-    listener: Option<TcpListener>,
+    bound: Option<(TcpListener, Poll)>,
     events: Events<Global>,
     guest: Option<TcpStream>,
     streams: Vec<Option<TcpStream>>,
@@ -29,59 +28,45 @@ pub struct TcpSockets<'a, R> {
 impl<'a, R: Net + Clock> TcpSockets<'a, R> {
     /// No sockets yet.
     pub fn new(alloc: Global, host: &'a R) -> Result<Self, Memory> {
-        let mut streams = Vec::with_capacity(alloc, PLACES as usize)?;
-        for _ in 0..PLACES {
-            streams.push(None)?;
-        }
         Ok(TcpSockets {
             host,
-            poll: None,
-            listener: None,
+            bound: None,
             events: Events::with_capacity(alloc, PLACES as usize)?,
             guest: None,
-            streams,
+            streams: (0..PLACES).map(|_| None).collect(alloc)?,
         })
     }
 
     /// The address at which they listen, once they do.
     pub fn address(&self) -> Option<SocketAddr> {
-        self.listener.as_ref()?.local_addr().ok()
+        self.bound.as_ref()?.0.local_addr().ok()
     }
 
-    // Listens at the first of the address's addresses that can be bound.
-    fn bind(&mut self, address: &str) -> io::Result<()>
-        ensures bound { OnOk result (IsTrue (is_some self.new.listener)) }
-        ensures unbound { OnErr result (self.new.listener ≡ self.old.listener) }
-    {
-        let mut found = Err(io::Error::from(ErrorKind::AddrNotAvailable));
-        for socket_address in address.to_socket_addrs(self.host)? {
-            found = TcpListener::bind(self.host, socket_address);
-            if found.is_ok() {
-                break;
-            }
-        }
-        let (mut listener, poll) = (found?, Poll::new(self.host)?);
-        let token = Token(PLACES as usize);
-        poll.registry()
-            .register(&mut listener, token, Interest::READABLE)?;
-        self.poll = Some(poll);
-        self.listener = Some(listener);
-        Ok(())
+    // A listener at the first of the address's addresses that can be bound, and what tells when it is ready.
+    fn bind(&self, address: &str) -> Option<(TcpListener, Poll)> {
+        let mut addresses = address.to_socket_addrs(self.host).ok()?;
+        let mut listener = addresses.find_map(|at| TcpListener::bind(self.host, at).ok())?;
+        let poll = Poll::new(self.host).ok()?;
+        let (token, reads) = (Token(PLACES as usize), Interest::READABLE);
+        poll.registry().register(&mut listener, token, reads).ok()?;
+        Some((listener, poll))
     }
 }
 
 impl<R: Net + Clock> Sockets for TcpSockets<'_, R> {
-    ghost use Rattle.std.specs.Prelude.{None};
-    ghost use Rattle.std.specs.Prelude.{is_some};
-    ghost use Rattle.wiki_io.specs.Link.{listens_anywhere};
-
-    ghost listens_at = { λ s. listens_anywhere (is_some s.listener) };
+    ghost listens_at = { λ s. listens_anywhere (is_some s.bound) };
 
     ghost events = { λ _. None };
 
+    ghost deeds = { λ _. None };
+
     #[tactic(auto, using(crate::proofs::ToldLemmas::listens_once))]
     fn listen(&mut self, address: &str) -> bool {
-        self.bind(address).is_ok()
+        let Some(bound) = self.bind(address) else {
+            return false;
+        };
+        self.bound = Some(bound);
+        true
     }
 
     fn now(&mut self) -> Option<Duration> {
@@ -89,7 +74,7 @@ impl<R: Net + Clock> Sockets for TcpSockets<'_, R> {
     }
 
     fn wait(&mut self, time: Option<Duration>) -> Option<Ready> {
-        match self.poll.as_mut()?.poll(&mut self.events, time) {
+        match self.bound.as_mut()?.1.poll(&mut self.events, time) {
             Err(error) if error.kind() != ErrorKind::Interrupted => return None,
             _ => {}
         }
@@ -101,7 +86,7 @@ impl<R: Net + Clock> Sockets for TcpSockets<'_, R> {
     }
 
     fn accept(&mut self) -> Accepted {
-        let Some(listener) = &self.listener else {
+        let Some((listener, _)) = &self.bound else {
             return Accepted::Failed;
         };
         match listener.accept() {
@@ -114,15 +99,14 @@ impl<R: Net + Clock> Sockets for TcpSockets<'_, R> {
     }
 
     fn settle(&mut self, number: u32) -> bool {
-        let (Some(mut stream), Some(poll)) = (self.guest.take(), &self.poll) else {
+        let (Some(mut stream), Some((_, poll))) = (self.guest.take(), &self.bound) else {
             return false;
         };
         let both = Interest::READABLE | Interest::WRITABLE;
         let token = Token(number as usize);
         let is_registered = poll.registry().register(&mut stream, token, both).is_ok();
-        match self.streams.get_mut(number as usize) {
-            Some(place) => *place = Some(stream),
-            None => return false,
+        if let Some(place) = self.streams.get_mut(number as usize) {
+            *place = Some(stream);
         }
         is_registered
     }
@@ -138,12 +122,16 @@ impl<R: Net + Clock> Sockets for TcpSockets<'_, R> {
         self.read(number, &mut [0; 4096])
     }
 
+    fn take(&mut self, _number: u32, _bytes: &[u8]) {}
+
     fn write(&mut self, number: u32, bytes: &[u8]) -> Moved {
         match self.streams.get_mut(number as usize) {
             Some(Some(stream)) => Moved::from_io(stream.write(bytes)),
             _ => Moved::End,
         }
     }
+
+    fn close(&mut self, _number: u32) {}
 
     fn shut(&mut self, number: u32) -> bool {
         match self.streams.get(number as usize) {

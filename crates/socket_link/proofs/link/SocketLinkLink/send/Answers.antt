@@ -1,0 +1,13 @@
+use Rattle.std.specs.Duration.{as_nanos}
+use Rattle.socket_link.proofs.RightLemmas.{right_told}
+use Rattle.socket_link.proofs.link.SocketLinkLink.send.Goals as goal
+
+pub returns-then-not-send-clause-right : goal.returns-then-not-send-clause-right
+returns-then-not-send-clause-right g c =
+    let board = c.send.new.self.board in
+    right_told board.places.items (as_nanos board.clock) _ board.sound
+
+pub returns-clause-right : goal.returns-clause-right
+returns-clause-right g c =
+    let board = c.send.new.self.board in
+    right_told board.places.items (as_nanos board.clock) _ board.sound

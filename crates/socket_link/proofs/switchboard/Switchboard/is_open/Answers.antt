@@ -1,0 +1,6 @@
+use Rattle.std.proofs.Common.{sym, ◌∙◌}
+use Rattle.socket_link.proofs.SoundLemmas.{is_false}
+use Rattle.socket_link.proofs.switchboard.Switchboard.is_open.Goals as goal
+
+pub returns-in-Some : goal.returns-in-Some
+returns-in-Some g c = λ is. (c.in-Some.place.now, c.in-Some.ensures, sym c.is_closed.ensures ∙ is_false c.is_closed.result is)

@@ -5,3 +5,5 @@ pub mod StandingLemmas
 pub mod MakeLemmas
 pub mod StatusLemmas
 pub mod OptionLemmas
+pub mod FormLemmas
+pub mod RetellLemmas

@@ -3,8 +3,7 @@ use Rattle.std.proofs.Common.{◌≡◌, ℕ, Bool, true, false, not, ◌&&◌, 
 use Rattle.std.specs.Prelude.{IsUtf8, option_and_then}
 use Rattle.std.specs.Str.{is_utf8}
 use Rattle.std.proofs.lemmas.Str.{is_utf8-from_IsUtf8, IsUtf8-from_is_utf8}
-use Rattle.acewiki.specs.declared.options.Options.{Options}
-use Rattle.acewiki.specs.Command.{begins_with_hyphen, is_address, with_option, options_after}
+use Rattle.acewiki.specs.Command.{Given, begins_with_hyphen, is_address, with_option, options_after}
 
 -- a text without a hyphen at its front
 pub an_address : (word s : List ℕ) → begins_with_hyphen word ≡ false → (s ≡ word) × IsUtf8 word → Some s ≡ (if is_address word then Some word else None)
@@ -12,7 +11,7 @@ an_address word s hyphen is =
     let test : is_address word ≡ true = ap (λ (b : Bool). not b && is_utf8 word) hyphen ∙ is_utf8-from_IsUtf8 word is.1 in
     ap Some is.0 ∙ sym (ap (λ (b : Bool). if b then Some word else None) test)
 
-not_utf8 : (word : List ℕ) → ¬ IsUtf8 word → is_utf8 word ≡ false
+pub not_utf8 : (word : List ℕ) → ¬ IsUtf8 word → is_utf8 word ≡ false
 not_utf8 word no_text =
     let Claim : Bool → Type 0 = λ b. is_utf8 word ≡ b → b ≡ false in
     let cases : (b : Bool) → Claim b = λ b. elim b as Claim [ true ↦ λ is. absurd (no_text (IsUtf8-from_is_utf8 word is)) | false ↦ λ _. refl ] in
@@ -25,7 +24,7 @@ no_address word hyphen no_text =
     sym (ap (λ (b : Bool). if b then Some word else None) test)
 
 -- one option further
-pub options_step : (given next : Options) (rest behind others : List (List ℕ)) (name value : List ℕ) (target : Option Options) → rest ≡ name ∷ behind
+pub options_step : (given next : Given) (rest behind others : List (List ℕ)) (name value : List ℕ) (target : Option Given) → rest ≡ name ∷ behind
     → behind ≡ value ∷ others
     → with_option given name value ≡ Some next → options_after given rest ≡ target → options_after next others ≡ target
 options_step given next rest behind others name value target first second is so_far =

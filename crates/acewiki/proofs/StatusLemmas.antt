@@ -9,8 +9,8 @@ use Rattle.wiki_io.specs.Lines.{InputLine}
 use Rattle.acewiki.specs.declared.command.Command.{Command}
 use Rattle.acewiki.specs.declared.command.Outcome.{Outcome}
 use Rattle.acewiki.specs.declared.command.Outcome.TheVariants as outcomes
-use Rattle.acewiki.specs.Command.{Asked, replay, serve, make, help, asked_by, command_of}
-use Rattle.acewiki.specs.Theorem.{World, EndsReading, ReadsLines, EndsServing, MakesSummary, WritesHelp, Does, IsWithin, HasCause, Performs}
+use Rattle.acewiki.specs.Command.{Asked, replay, serve, make, help, say, why, asked_by, command_of}
+use Rattle.acewiki.specs.Theorem.{World, EndsReading, ReadsLines, EndsServing, EndsRetelling, MakesSummary, WritesHelp, IsSaid, IsWhy, Does, IsWithin, HasCause, Performs}
 use Rattle.acewiki.specs.Wiki.{ace_wiki}
 
 -- ---- the command
@@ -49,6 +49,17 @@ no_serving outcomes.LinkFault address events most before after ends = ends
 no_serving outcomes.TooMuch address events most before after ends = ends
 no_serving outcomes.Memory address events most before after ends = ends
 
+-- retelling has no such end
+no_retelling : (IsText : List ℕ → Type 0) (read_so : Outcome) (taken taken_after : Option (List ℕ))
+    → EndsRetelling IsText read_so outcomes.Usage taken taken_after → ⊥
+no_retelling IsText outcomes.Done taken taken_after ends = ends
+no_retelling IsText outcomes.Usage taken taken_after ends = ends
+no_retelling IsText outcomes.ReadFault taken taken_after ends = ends
+no_retelling IsText outcomes.WriteFault taken taken_after ends = ends
+no_retelling IsText outcomes.LinkFault taken taken_after ends = ends
+no_retelling IsText outcomes.TooMuch taken taken_after ends = ends
+no_retelling IsText outcomes.Memory taken taken_after ends = ends
+
 -- no command that there is ends so
 not_usage : {S K L : Type 0} (command : Asked) (before after : World S K L) → Does (Some command) outcomes.Usage before after → ⊥
 not_usage (replay budget) before after does =
@@ -56,6 +67,10 @@ not_usage (replay budget) before after does =
 not_usage (serve address budget most) before after does = no_serving does.read_so address does.events most before after does.ends
 not_usage (make count seed budget) before after does = does.0
 not_usage help before after does = does.0
+not_usage (say budget) before after does =
+    no_retelling (IsSaid does.0.last) does.0.read_so before.output.bytes after.output.bytes does.0.ends
+not_usage (why article at name budget) before after does =
+    no_retelling (IsWhy budget article at name does.0.last) does.0.read_so before.output.bytes after.output.bytes does.0.ends
 
 usage_of : {S K L : Type 0} (command : Option Asked) (outcome : Outcome) (before after : World S K L) → Does command outcome before after
     → (outcome ≡ outcomes.Usage) ↔ (command ≡ None)
@@ -90,6 +105,22 @@ serving_too_much outcomes.LinkFault address events most before after ends = absu
 serving_too_much outcomes.TooMuch address events most before after ends = refl
 serving_too_much outcomes.Memory address events most before after ends = absurd ends
 
+retelling_too_much : (IsText : List ℕ → Type 0) (read_so : Outcome) (taken taken_after : Option (List ℕ))
+    → EndsRetelling IsText read_so outcomes.TooMuch taken taken_after → read_so ≡ outcomes.TooMuch
+retelling_too_much IsText outcomes.Done taken taken_after ends = absurd ends
+retelling_too_much IsText outcomes.Usage taken taken_after ends = absurd ends
+retelling_too_much IsText outcomes.ReadFault taken taken_after ends = absurd ends
+retelling_too_much IsText outcomes.WriteFault taken taken_after ends = absurd ends
+retelling_too_much IsText outcomes.LinkFault taken taken_after ends = absurd ends
+retelling_too_much IsText outcomes.TooMuch taken taken_after ends = refl
+retelling_too_much IsText outcomes.Memory taken taken_after ends = absurd ends
+
+-- the input isn't too large where it is told to be within the bound, whatever of its lines came
+not_within_so : (left left_after : Option (List ℕ)) (read_so : Outcome) (lines : List InputLine) → ReadsLines left read_so left_after lines
+    → read_so ≡ outcomes.TooMuch → ¬ IsWithin left
+not_within_so left left_after read_so lines reads is =
+    not_within left left_after lines (subst (λ (o : Outcome). ReadsLines left o left_after lines) is reads)
+
 too_much_of : {S K L : Type 0} (command : Option Asked) (before after : World S K L) → Does command outcomes.TooMuch before after
     → ¬ IsWithin before.input.bytes
 too_much_of None before after does within = cc does.0
@@ -102,6 +133,12 @@ too_much_of (Some (serve address budget most)) before after does within =
     not_within before.input.bytes after.input.bytes does.lines reads within
 too_much_of (Some (make count seed budget)) before after does within = absurd does.0
 too_much_of (Some help) before after does within = absurd does.0
+too_much_of (Some (say budget)) before after does within =
+    not_within_so before.input.bytes after.input.bytes does.0.read_so does.0.lines does.0.reads
+    (retelling_too_much (IsSaid does.0.last) does.0.read_so before.output.bytes after.output.bytes does.0.ends) within
+too_much_of (Some (why article at name budget)) before after does within =
+    not_within_so before.input.bytes after.input.bytes does.0.read_so does.0.lines does.0.reads
+    (retelling_too_much (IsWhy budget article at name does.0.last) does.0.read_so before.output.bytes after.output.bytes does.0.ends) within
 
 cause_of : {S K L : Type 0} (command : Option Asked) (outcome : Outcome) (before after : World S K L) → Does command outcome before after
     → (outcome ≡ outcomes.ReadFault → Rose before.input.faults after.input.faults)

@@ -4,4 +4,5 @@ pub mod Lines
 pub mod Completeness
 pub mod Standing
 pub mod Theorem
+pub mod Sockets
 pub mod Steps

@@ -1,5 +1,6 @@
 -- What the calls below the commands come to. Only private calls speak of it.
-use Rattle.std.specs.Prelude.{◌≡◌, ◌⊎◌, ℕ, Bool, IsTrue, List, Option}
+use Rattle.std.specs.Prelude.{◌≡◌, ◌⊎◌, ◌≤◌, ℕ, Bool, IsTrue, List, [], length, take, Option, Result, Ok, Err}
+use Rattle.std.specs.Io.KnownBytes.{Appends}
 use Rattle.wiki_io.specs.declared.links.Event.{Event}
 use Rattle.wiki_io.specs.Lines.{InputLine}
 use Rattle.wiki_talk.specs.declared.requests.Request.{Request}
@@ -38,6 +39,13 @@ ServesLink first most outside handed outcome listens outside_after handed_after 
     (IsTrue listens × ((served_so : Served) × (outcome ≡ outcome_of served_so)
     × Ended KeptStep first outside handed most handed_after served_so coming_after outside_after))
     ⊎ ((outcome ≡ outcomes.LinkFault) × (outside_after ≡ outside) × (handed_after ≡ handed))
+
+-- What was written where a text was made, or there was no memory for it: the text, a front of it where a write failed, and nothing.
+abbrev pub EndsWriting : {E : Type 0} → Result (List ℕ) E → Outcome → Option (List ℕ) → Option (List ℕ) → Type 0
+EndsWriting (Ok text) outcomes.Done taken taken_after = Appends taken taken_after text
+EndsWriting (Ok text) outcomes.WriteFault taken taken_after = (n : ℕ) × (n ≤ length text) × Appends taken taken_after (take n text)
+EndsWriting (Err none) outcomes.Memory taken taken_after = Appends taken taken_after []
+EndsWriting made outcome taken taken_after = ⊥
 
 -- how the program ends where making ends so
 abbrev pub made_outcome : Made → Outcome

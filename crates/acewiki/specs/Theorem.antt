@@ -20,7 +20,9 @@ use Rattle.making.specs.Making.{Makes}
 use Rattle.wiki_core.specs.Apart.{TokensAreOwn}
 use Rattle.acewiki.specs.declared.command.Outcome.{Outcome}
 use Rattle.acewiki.specs.declared.command.Outcome.TheVariants.{Done, Usage, ReadFault, WriteFault, LinkFault, TooMuch, Memory}
-use Rattle.acewiki.specs.Command.{Asked, replay, serve, make, help, command_of, status_of, words_of, help_text}
+use Rattle.retelling.specs.Saying.{SaysAll}
+use Rattle.retelling.specs.Why.{TellsWhy}
+use Rattle.acewiki.specs.Command.{Asked, replay, serve, make, help, say, why, command_of, status_of, words_of, help_text}
 use Rattle.acewiki.specs.Completeness.{DoesWhatIsFree}
 use Rattle.acewiki.specs.Standing.{StandsAsRead, WritesShortLines}
 use Rattle.acewiki.specs.Lines.{asked, StepsLines, reply_lines}
@@ -208,6 +210,38 @@ WritesHelp Done taken taken_after = Appends taken taken_after help_text
 WritesHelp WriteFault taken taken_after = (n : ℕ) × (n ≤ length help_text) × Appends taken taken_after (take n help_text)
 WritesHelp outcome taken taken_after = ⊥
 
+-- How a command ends that writes a text about the wiki behind the lines of the input, where reading ended so: the text was written; a
+-- front of it where a write failed; and nothing where there was no memory, or reading ended before.
+abbrev pub EndsRetelling : (List ℕ → Type 0) → Outcome → Outcome → Option (List ℕ) → Option (List ℕ) → Type 0
+EndsRetelling IsText Done Done taken taken_after = (text : List ℕ) × IsText text × Appends taken taken_after text
+EndsRetelling IsText Done WriteFault taken taken_after =
+    (text : List ℕ) × IsText text × ((n : ℕ) × (n ≤ length text) × Appends taken taken_after (take n text))
+EndsRetelling IsText Done Memory taken taken_after = Appends taken taken_after []
+EndsRetelling IsText ReadFault ReadFault taken taken_after = Appends taken taken_after []
+EndsRetelling IsText TooMuch TooMuch taken taken_after = Appends taken taken_after []
+EndsRetelling IsText Memory Memory taken taken_after = Appends taken taken_after []
+EndsRetelling IsText read_so outcome taken taken_after = ⊥
+
+-- `say` and `why`: the lines that were read were stepped in one run of the plain wiki, and a text about the wiki as that leaves it was
+-- written.
+pub record Retells (IsText : Holding → List ℕ → Type 0) (first : Holding) (left taken : Option (List ℕ)) (outcome : Outcome)
+    (left_after taken_after : Option (List ℕ)) : Type 0 where
+  pub read_so : Outcome
+  pub lines : List InputLine
+  pub reads : ReadsLines left read_so left_after lines
+  pub exchanges : List (Exchange Request Reply)
+  pub last : Holding
+  pub steps : StepsLines first lines exchanges last
+  pub ends : EndsRetelling (IsText last) read_so outcome taken taken_after
+
+-- `say`: the lines of all that the wiki knows
+abbrev pub IsSaid : Holding → List ℕ → Type 0
+IsSaid wiki text = SaysAll wiki.state.pages text
+
+-- `why`: what is told of the sentence at a place of an article, or of that and a name
+abbrev pub IsWhy : ℕ → List ℕ → ℕ → Option (List ℕ) → Holding → List ℕ → Type 0
+IsWhy budget article at name wiki text = TellsWhy wiki.state.pages budget article at name text
+
 -- ---- the program
 
 -- what was done for a command up to an outcome; where the words are none, nothing was read, written or sent
@@ -220,6 +254,11 @@ Does (Some (make count seed budget)) outcome before after =
     MakesSummary (ace_wiki budget) count seed before.output.bytes outcome after.output.bytes × (after.input ≡ before.input) × (after.link ≡ before.link)
 Does (Some help) outcome before after =
     WritesHelp outcome before.output.bytes after.output.bytes × (after.input ≡ before.input) × (after.link ≡ before.link)
+Does (Some (say budget)) outcome before after =
+    Retells IsSaid (ace_wiki budget) before.input.bytes before.output.bytes outcome after.input.bytes after.output.bytes × (after.link ≡ before.link)
+Does (Some (why article at name budget)) outcome before after =
+    Retells (IsWhy budget article at name) (ace_wiki budget) before.input.bytes before.output.bytes outcome after.input.bytes after.output.bytes
+    × (after.link ≡ before.link)
 
 -- the source told no more than `MAX_INPUT` bytes
 abbrev pub IsWithin : Option (List ℕ) → Type 0

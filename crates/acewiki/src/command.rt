@@ -1,9 +1,10 @@
 // The command line: which words are a command, and how the program ends.
 ghost use Rattle.std.specs.Prelude.{◌≡◌, None, Some, option_map, if◌then◌else◌};
-ghost use Rattle.acewiki.specs.Command.{asked_by, command_of, replay_with, serve_of, make_of, make_counted, make_seeded, make_with, help_of, is_address, begins_with_hyphen, status_of, words_of};
+ghost use Rattle.acewiki.specs.Command.{asked_by, command_of, given_by, has_budget_alone, replay_with, serve_of, serve_with, make_of, make_counted, make_seeded, make_with, help_of, say_with, why_of, why_about, why_at, why_with, is_address, begins_with_hyphen, status_of, words_of};
 ghost use Rattle.acewiki.specs.declared.command.Outcome.TheVariants.{Memory as out_of_memory};
 
-use crate::options::{DEFAULT_BUDGET, MOST_EVENTS, MOST_MADE, Options, number_within};
+use crate::forms::form_of;
+use crate::options::{DEFAULT_BUDGET, MOST_EVENTS, MOST_MADE, MOST_PLACE, Options, number_within};
 use http_front::number_of;
 use std::str::from_utf8;
 use wiki_base::{Arg, Memory};
@@ -29,6 +30,17 @@ pub enum Command<'a> {
     },
     /// Tells what the commands are.
     Help,
+    /// Steps through the lines of the input, and then says all that the wiki knows.
+    Say {
+        budget: u64,
+    },
+    /// Steps through the lines of the input, and then tells why a sentence isn't asserted, or why a name answers a question.
+    Why {
+        article: &'a str,
+        at: u32,
+        name: Option<&'a str>,
+        budget: u64,
+    },
 }
 
 impl Command<'_> {
@@ -49,14 +61,27 @@ impl Command<'_> {
         if name.as_slice() == b"help".as_slice() {
             return help_of(words);
         }
+        if name.as_slice() == b"say".as_slice() {
+            return say_with(Options::from_words(words)?);
+        }
+        if name.as_slice() == b"why".as_slice() {
+            return why_of(words);
+        }
         None
     }
 }
 
-fn replay_with<'a>(options: Options) -> Option<Command<'a>>
-    ensures { option_map asked_by result ≡ replay_with options }
+// Whether no other option than a budget is given.
+fn has_budget_alone(options: Options<'_>) -> bool
+    ensures { result ≡ has_budget_alone (given_by options.entry) }
 {
-    if options.events.is_some() {
+    options.events.is_none() && options.name.is_none()
+}
+
+fn replay_with<'a>(options: Options<'a>) -> Option<Command<'a>>
+    ensures { option_map asked_by result ≡ replay_with (given_by options.entry) }
+{
+    if !has_budget_alone(options) {
         return None;
     }
     Some(Command::Replay {
@@ -69,7 +94,15 @@ fn serve_of(words: &[Arg]) -> Option<Command<'_>>
 {
     let (address, words) = words.split_first()?;
     let address = address_of(address.as_slice())?;
-    let options = Options::from_words(words)?;
+    serve_with(address, Options::from_words(words)?)
+}
+
+fn serve_with<'a>(address: &'a str, options: Options<'a>) -> Option<Command<'a>>
+    ensures { option_map asked_by result ≡ serve_with address.now (given_by options.entry) }
+{
+    if options.name.is_some() {
+        return None;
+    }
     Some(Command::Serve {
         address,
         budget: options.budget.unwrap_or(DEFAULT_BUDGET),
@@ -99,10 +132,10 @@ fn make_seeded<'a>(count: u32, seed: &[u8], words: &'a [Arg]) -> Option<Command<
     make_with(count, seed, Options::from_words(words)?)
 }
 
-fn make_with<'a>(count: u32, seed: u64, options: Options) -> Option<Command<'a>>
-    ensures { option_map asked_by result ≡ make_with count seed options }
+fn make_with<'a>(count: u32, seed: u64, options: Options<'a>) -> Option<Command<'a>>
+    ensures { option_map asked_by result ≡ make_with count seed (given_by options.entry) }
 {
-    if options.events.is_some() {
+    if !has_budget_alone(options) {
         return None;
     }
     Some(Command::Make {
@@ -119,6 +152,53 @@ fn help_of(words: &[Arg]) -> Option<Command<'_>>
         [] => Some(Command::Help),
         [..] => None,
     }
+}
+
+fn say_with<'a>(options: Options<'a>) -> Option<Command<'a>>
+    ensures { option_map asked_by result ≡ say_with (given_by options.entry) }
+{
+    if !has_budget_alone(options) {
+        return None;
+    }
+    Some(Command::Say {
+        budget: options.budget.unwrap_or(DEFAULT_BUDGET),
+    })
+}
+
+fn why_of(words: &[Arg]) -> Option<Command<'_>>
+    ensures { option_map asked_by result ≡ why_of words.now }
+{
+    let (article, words) = words.split_first()?;
+    why_about(article.as_slice(), words)
+}
+
+fn why_about<'a>(article: &'a [u8], words: &'a [Arg]) -> Option<Command<'a>>
+    ensures { option_map asked_by result ≡ why_about article.now words.now }
+{
+    let (at, words) = words.split_first()?;
+    let article = form_of(article)?;
+    why_at(article, at.as_slice(), words)
+}
+
+fn why_at<'a>(article: &'a str, at: &[u8], words: &'a [Arg]) -> Option<Command<'a>>
+    ensures { option_map asked_by result ≡ why_at article.now at.now words.now }
+{
+    let at = number_within(0, MOST_PLACE, at)?;
+    why_with(article, at as u32, Options::from_words(words)?)
+}
+
+fn why_with<'a>(article: &'a str, at: u32, options: Options<'a>) -> Option<Command<'a>>
+    ensures { option_map asked_by result ≡ why_with article.now at (given_by options.entry) }
+{
+    if options.events.is_some() {
+        return None;
+    }
+    Some(Command::Why {
+        article,
+        at,
+        name: options.name,
+        budget: options.budget.unwrap_or(DEFAULT_BUDGET),
+    })
 }
 
 // The address that a word is, if it is one.

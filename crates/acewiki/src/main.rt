@@ -1,14 +1,18 @@
 //! AceWiki: a controlled-English wiki. `acewiki replay` answers one reply line to each request line of its input, and
 //! `acewiki serve ADDRESS` serves it to browsers; `acewiki make COUNT SEED` makes a
-//! generated one, and `acewiki help` tells the commands.
+//! generated one, and `acewiki help` tells the commands. `acewiki say` says all that a wiki knows, and `acewiki why ARTICLE AT`
+//! tells why a sentence is not asserted.
 #![tactic(auto)]
 
 mod command;
+mod forms;
 mod help;
 mod lines;
 mod make;
 mod options;
+mod over_sockets;
 mod replay;
+mod retell;
 mod run;
 mod serve;
 #[cfg(test)]
@@ -18,6 +22,7 @@ mod words;
 
 use command::Outcome;
 pub use lines::answer_line;
+pub use over_sockets::program_over;
 use run::end;
 pub use run::{program, run};
 use socket_link::SocketLink;
@@ -44,7 +49,7 @@ fn main(rt: HostRuntime) -> ExitCode {
     let Ok(mut link) = SocketLink::new(rt.alloc(), &rt, head, request) else {
         return ExitCode::from(end(Outcome::Memory, &mut errors));
     };
-    let status = program(
+    let status = program_over(
         rt.alloc(),
         &line,
         &mut input,

@@ -1,7 +1,8 @@
 // The options of a command, each as two words.
-ghost use Rattle.std.specs.Prelude.{◌≡◌, ◌≤◌, IfSome};
-ghost use Rattle.acewiki.specs.Command.{number_within, with_budget, with_events, with_option, options_after, no_options};
+ghost use Rattle.std.specs.Prelude.{◌≡◌, ◌≤◌, IfSome, option_map};
+ghost use Rattle.acewiki.specs.Command.{given_by, number_within, with_budget, with_events, with_name, with_option, options_after, no_options};
 
+use crate::forms::form_of;
 use http_front::number_of;
 use wiki_base::Arg;
 use wiki_talk::MOST_SENTENCES;
@@ -15,26 +16,32 @@ pub const MOST_EVENTS: u64 = 1_000_000_000;
 /// The most sentences that are made: as many as a wiki may have.
 pub const MOST_MADE: u64 = MOST_SENTENCES as u64;
 
+/// The greatest place in an article that a command can name.
+pub const MOST_PLACE: u64 = 4_294_967_295;
+
 /// How many steps a search may take where the command says nothing else.
 pub const DEFAULT_BUDGET: u64 = 1_000_000;
 
 /// The options, each where it is given.
-#[derive(Clone, Copy, Debug, PartialEq, Eq)]
-pub struct Options {
+#[derive(Clone, Copy, Debug)]
+pub struct Options<'a> {
     /// `--budget`: how many steps a search may take.
     pub budget: Option<u64>,
     /// `--events`: how many events are handled.
     pub events: Option<u64>,
+    /// `--name`: the form of a name.
+    pub name: Option<&'a str>,
 }
 
-impl Options {
+impl<'a> Options<'a> {
     /// The options that the words are, if they are options, each at most once.
-    pub fn from_words(words: &[Arg]) -> Option<Options>
-        ensures { result ≡ options_after no_options words.now }
+    pub fn from_words(words: &'a [Arg]) -> Option<Options<'a>>
+        ensures { option_map given_by result ≡ options_after no_options words.now }
     {
         let mut given = Options {
             budget: None,
             events: None,
+            name: None,
         };
         let mut rest = words;
         'words: while let Some((name, behind)) = rest.split_first() {
@@ -46,8 +53,8 @@ impl Options {
     }
 
     #[tactic(auto, unfolding(crate::specs::Command::with_option))]
-    fn with_option(self, name: &[u8], value: &[u8]) -> Option<Options>
-        ensures { result ≡ with_option self name.now value.now }
+    fn with_option(self, name: &[u8], value: &'a [u8]) -> Option<Options<'a>>
+        ensures { option_map given_by result ≡ with_option (given_by self.entry) name.now value.now }
     {
         if name == b"--budget".as_slice() {
             return self.with_budget(value);
@@ -55,11 +62,14 @@ impl Options {
         if name == b"--events".as_slice() {
             return self.with_events(value);
         }
+        if name == b"--name".as_slice() {
+            return self.with_name(value);
+        }
         None
     }
 
-    fn with_budget(self, value: &[u8]) -> Option<Options>
-        ensures { result ≡ with_budget self value.now }
+    fn with_budget(self, value: &[u8]) -> Option<Options<'a>>
+        ensures { option_map given_by result ≡ with_budget (given_by self.entry) value.now }
     {
         if self.budget.is_some() {
             return None;
@@ -68,11 +78,12 @@ impl Options {
         Some(Options {
             budget: Some(budget),
             events: self.events,
+            name: self.name,
         })
     }
 
-    fn with_events(self, value: &[u8]) -> Option<Options>
-        ensures { result ≡ with_events self value.now }
+    fn with_events(self, value: &[u8]) -> Option<Options<'a>>
+        ensures { option_map given_by result ≡ with_events (given_by self.entry) value.now }
     {
         if self.events.is_some() {
             return None;
@@ -81,6 +92,21 @@ impl Options {
         Some(Options {
             budget: self.budget,
             events: Some(events),
+            name: self.name,
+        })
+    }
+
+    fn with_name(self, value: &'a [u8]) -> Option<Options<'a>>
+        ensures { option_map given_by result ≡ with_name (given_by self.entry) value.now }
+    {
+        if self.name.is_some() {
+            return None;
+        }
+        let name = form_of(value)?;
+        Some(Options {
+            budget: self.budget,
+            events: self.events,
+            name: Some(name),
         })
     }
 }

@@ -7,6 +7,7 @@ use crate::command::{Command, Outcome};
 use crate::help::help;
 use crate::make::make;
 use crate::replay::replay;
+use crate::retell::{say, why};
 use crate::serve::serve;
 use crate::words::{CommandLine, words};
 use std::alloc::Global;
@@ -82,6 +83,15 @@ fn perform<S: Source, K: Sink, L: Link>(
             },
         ) => make(alloc, count, seed, budget, output),
         Some(Command::Help) => help(output),
+        Some(Command::Say { budget }) => say(alloc, budget, input, output),
+        Some(
+            Command::Why {
+                article,
+                at,
+                name,
+                budget,
+            },
+        ) => why(alloc, budget, article, at, name, input, output),
         None => Outcome::Usage,
     }
 }

@@ -118,8 +118,8 @@ fn ended(served: Served) -> Outcome
     }
 }
 
-// Steps the wiki through the lines of the input.
-fn step_input<S: Source>(alloc: Global, wiki: &mut AceWiki, input: &mut S) -> Outcome
+/// Steps the wiki through the lines of the input, and writes nothing.
+pub fn step_input<S: Source>(alloc: Global, wiki: &mut AceWiki, input: &mut S) -> Outcome
     ensures steps { StepsInput wiki.old (S.left input.old) result (S.left input.new) wiki.new }
     ensures read_fault { result ≡ Outcome.ReadFault → Rose (S.faults input.old) (S.faults input.new) }
     ensures write_fault { result ≡ Outcome.WriteFault → ⊥ }

@@ -57,9 +57,9 @@ struct Left {
     sent: Vec<u8>,
 }
 
-// A run by the words of the line, or by the line.
-fn left_by(alloc: Global, line: &ToldLine, by_line: bool) -> Result<Left, Fail> {
-    let mut input = MemorySource::new(INPUT.to_vec(alloc)?, Vec::new(alloc));
+// A run by the words of the line, or by the line, over this input.
+fn left_by(alloc: Global, line: &ToldLine, by_line: bool, input: &[u8]) -> Result<Left, Fail> {
+    let mut input = MemorySource::new(input.to_vec(alloc)?, Vec::new(alloc));
     let mut output = MemorySink::new(alloc, Vec::new(alloc));
     let mut errors = MemorySink::new(alloc, Vec::new(alloc));
     let mut link = link_of(alloc)?;
@@ -105,11 +105,51 @@ fn the_lines_come_first_and_then_the_link(rt: HostRuntime) -> Result<(), Fail> {
     words.push(Arg::from_slice(alloc, b"anywhere")?)?;
     let line = ToldLine { words };
     for by_line in &[true, false] {
-        let left = left_by(alloc, &line, *by_line)?;
+        let left = left_by(alloc, &line, *by_line, INPUT)?;
         assert_eq!(rt; left.status, 0, "by the line: {by_line}");
         assert_eq!(rt; left.output.as_slice(), JOURNAL);
         assert!(rt; left.errors.is_empty());
         assert_eq!(rt; left.sent.as_slice(), RESPONSE);
+    }
+    Ok(())
+}
+
+const CITIES: &[u8] = b"{\"do\":\"word\",\"kind\":\"noun\",\"forms\":[\"city\"]}\n\
+{\"do\":\"word\",\"kind\":\"noun\",\"forms\":[\"country\"]}\n\
+{\"do\":\"word\",\"kind\":\"name\",\"forms\":[\"Bern\"]}\n\
+{\"do\":\"add\",\"article\":\"city\",\"text\":\"No city is a country.\"}\n\
+{\"do\":\"add\",\"article\":\"Bern\",\"text\":\"Bern is a city.\"}\n\
+{\"do\":\"add\",\"article\":\"Bern\",\"text\":\"Bern is a country.\"}\n";
+
+// The words of a command, and what it writes behind these lines.
+const TOLD: [(&[&str], &str, u8); 6] = [
+    (
+        &["say"],
+        "Every city is not a country.\nBern is a city.\n",
+        0,
+    ),
+    (
+        &["why", "Bern", "1"],
+        "city 0 No city is a country.\nBern 0 Bern is a city.\nBern 1 Bern is a country.\n",
+        0,
+    ),
+    (&["why", "Bern", "0"], "no case\n", 0),
+    (&["why", "Bern", "1", "--name", "Bern"], "no case\n", 0),
+    (&["why", "Bern"], "", 2),
+    (&["say", "--name", "Bern"], "", 2),
+];
+
+#[test]
+fn the_wiki_is_told_behind_the_lines(rt: HostRuntime) -> Result<(), Fail> {
+    let alloc = rt.alloc();
+    for (told, output, status) in TOLD.iter() {
+        let mut words = Vec::new(alloc);
+        for word in *told {
+            words.push(Arg::from_slice(alloc, word.as_bytes())?)?;
+        }
+        let left = left_by(alloc, &ToldLine { words }, false, CITIES)?;
+        assert_eq!(rt; left.status, *status, "status of {output}");
+        assert_eq!(rt; left.output.as_slice(), output.as_bytes());
     }
     Ok(())
 }

@@ -32,6 +32,13 @@ impl AceWiki {
         let wiki = Wiki::new(alloc, built_in(alloc)?, budget)?;
         Ok(AceWiki { wiki })
     }
+
+    /// The wiki itself.
+    pub fn inner(&self) -> &Wiki
+        ensures { result.now ≡ self.now }
+    {
+        &self.wiki
+    }
 }
 
 impl Machine for AceWiki {

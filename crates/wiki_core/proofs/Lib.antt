@@ -12,6 +12,7 @@ pub mod LineLemmas
 pub mod MenuLemmas
 pub mod OneStepLemmas
 pub mod PagesLemmas
+pub mod PartLemmas
 pub mod ReadableLemmas
 pub mod ReadyLemmas
 pub mod RunLemmas

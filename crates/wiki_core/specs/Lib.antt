@@ -1,9 +1,11 @@
 pub mod Apart
 pub mod Causes
+pub mod Counting
 pub mod Drafts
 pub mod Holding
 pub mod Journaled
 pub mod Keeping
+pub mod Parts
 pub mod Spending
 pub mod State
 pub mod Step

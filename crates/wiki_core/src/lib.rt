@@ -4,9 +4,14 @@
 mod causes;
 mod committing;
 mod held;
+mod known;
+mod meaning;
 mod opening;
+mod parts;
 mod rewording;
 mod typing;
 mod wiki;
 
+pub use meaning::Meaning;
+pub use parts::Parts;
 pub use wiki::Wiki;

@@ -6,7 +6,7 @@ use Rattle.std.proofs.Math.Bool.{and-false}
 use Rattle.wiki_base.proofs.ListLaws.{drop_slice_get}
 use Rattle.logic_terms.specs.declared.cause.Cause.{Cause}
 use Rattle.logic_terms.specs.declared.cause.Cause.TheVariants.{Shared, Cycle, NoRoot, Equality, Free}
-use Rattle.logic_terms.specs.Concept.{Claim, SubClassOf, SubPropertyOf, ClassAssertion, PropertyAssertion, NegativePropertyAssertion, SameIndividual, DifferentIndividuals}
+use Rattle.logic_terms.specs.Concept.{Claim, SubClassOf, SubPropertyOf, ClassAssertion, PropertyAssertion, NegativePropertyAssertion, SameIndividual, DifferentIndividuals, TransitiveProperty}
 use Rattle.logic_terms.specs.Interpretation.{is_word}
 use Rattle.logic_terms.specs.Same.{same_role, same_concept}
 use Rattle.logic_terms.proofs.SameLemmas.{word_equal, role_equal, same_concept-equal, same_word, same_role-self, same_concept-self}
@@ -55,6 +55,7 @@ claim_equal (SameIndividual a b) (SameIndividual c d) h =
 claim_equal (DifferentIndividuals a b) (DifferentIndividuals c d) h =
     let p = and_parts (is_word a c) (is_word b d) h in
     ap (λ x. DifferentIndividuals x b) (word_equal a c p.0) ∙ ap (λ x. DifferentIndividuals c x) (word_equal b d p.1)
+claim_equal (TransitiveProperty v) (TransitiveProperty w) h = ap TransitiveProperty (word_equal v w h)
 claim_equal _ _ h = absurd (false≢true h)
 
 claim_self : (c : Claim) → same_claim c c ≡ true
@@ -65,6 +66,7 @@ claim_self (PropertyAssertion r a b) = and_from _ _ (and_from _ _ (same_role-sel
 claim_self (NegativePropertyAssertion r a b) = and_from _ _ (and_from _ _ (same_role-self r) (same_word a)) (same_word b)
 claim_self (SameIndividual a b) = and_from _ _ (same_word a) (same_word b)
 claim_self (DifferentIndividuals a b) = and_from _ _ (same_word a) (same_word b)
+claim_self (TransitiveProperty w) = same_word w
 
 claims_equal : (cs ds : List Claim) → same_claims cs ds ≡ true → cs ≡ ds
 claims_equal [] [] h = refl

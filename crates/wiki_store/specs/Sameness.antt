@@ -2,7 +2,7 @@
 use Rattle.std.specs.Prelude.{ℕ, ◌==◌, ◌&&◌, Bool, true, false, List, [], ◌∷◌}
 use Rattle.logic_terms.specs.declared.cause.Cause.{Cause}
 use Rattle.logic_terms.specs.declared.cause.Cause.TheVariants.{Shared, Cycle, NoRoot, Equality, Free}
-use Rattle.logic_terms.specs.Concept.{Claim, SubClassOf, SubPropertyOf, ClassAssertion, PropertyAssertion, NegativePropertyAssertion, SameIndividual, DifferentIndividuals}
+use Rattle.logic_terms.specs.Concept.{Claim, SubClassOf, SubPropertyOf, ClassAssertion, PropertyAssertion, NegativePropertyAssertion, SameIndividual, DifferentIndividuals, TransitiveProperty}
 use Rattle.logic_terms.specs.Interpretation.{is_word}
 use Rattle.logic_terms.specs.Same.{same_role, same_concept}
 use Rattle.wiki_parts.specs.Meanings.{Meaning, stating, outside, asking, asking_outside}
@@ -24,6 +24,7 @@ same_claim (PropertyAssertion r a b) (PropertyAssertion s c d) = same_role r s &
 same_claim (NegativePropertyAssertion r a b) (NegativePropertyAssertion s c d) = same_role r s && is_word a c && is_word b d
 same_claim (SameIndividual a b) (SameIndividual c d) = is_word a c && is_word b d
 same_claim (DifferentIndividuals a b) (DifferentIndividuals c d) = is_word a c && is_word b d
+same_claim (TransitiveProperty v) (TransitiveProperty w) = is_word v w
 same_claim _ _ = false
 
 abbrev pub same_claims : List Claim → List Claim → Bool

@@ -2,14 +2,18 @@
 ghost use Rattle.std.specs.Prelude.{◌≡◌, ◌≤◌, length, option_copied};
 ghost use Rattle.wiki_talk.specs.declared.limits.TheConstants.{MOST_SENTENCES as most_sentences};
 ghost use Rattle.articles.specs.Articles.{article_of};
-ghost use Rattle.wiki_parts.specs.Knowledge.{sentences_in};
+ghost use Rattle.logic_terms.specs.Shown.{claims_of};
+ghost use Rattle.wiki_parts.specs.Kept.{MeanInEach};
+ghost use Rattle.wiki_parts.specs.Knowledge.{sentences_in, Knows};
 ghost use Rattle.wiki_parts.specs.State.{IsSound};
 
 use crate::base::Base;
 use articles::Article;
 use codeco_checked::CheckedGrammar;
 use lexicon::Lexicon;
+use logic_terms::Axioms;
 use wiki_base::WordId;
+use wiki_parts::Senses;
 
 impl Base {
     // The grammar of sentences.
@@ -40,6 +44,27 @@ impl Base {
         ensures few { result ≤ most_sentences }
     {
         sentence_count(self.articles.as_slice())
+    }
+
+    // The articles, in order of the numbers of their words.
+    pub(crate) fn articles(&self) -> &[Article]
+        ensures { result.now ≡ self.now.state.articles }
+    {
+        self.articles.as_slice()
+    }
+
+    // What the sentences of each article mean.
+    pub(crate) fn senses(&self) -> &[Senses]
+        ensures { MeanInEach self.now.state.grammar self.now.state.words self.now.state.articles result.now }
+    {
+        self.senses.as_slice()
+    }
+
+    // The axioms of the asserted sentences.
+    pub(crate) fn asserted(&self) -> &Axioms
+        ensures { Knows self.now.state (claims_of result.now) }
+    {
+        self.kept.axioms()
     }
 }
 

@@ -89,6 +89,10 @@ fn same_axiom(first: &Axiom, other: &Axiom) -> bool
                 && same_word(*two, *others_two),
             _ => false,
         },
+        Axiom::Transitive(word) => match other {
+            Axiom::Transitive(others) => same_word(*word, *others),
+            _ => false,
+        },
     }
 }
 

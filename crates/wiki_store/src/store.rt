@@ -8,10 +8,11 @@ use crate::remembered::Remembered;
 use articles::Article;
 use codeco_checked::CheckedGrammar;
 use lexicon::Lexicon;
+use logic_terms::Axioms;
 use std::alloc::Global;
 use std::marker::Model;
 use wiki_base::{Memory, Text8, Tokens, WordId};
-use wiki_parts::Fault;
+use wiki_parts::{Fault, Senses};
 use wiki_talk::{Reply, Request, Status};
 
 /// The words and sentences of a wiki. They are seen as its state, which is the grammar, the budget of a search, the live words and their articles, and the
@@ -43,7 +44,9 @@ impl Store {
     ghost use Rattle.articles.specs.Articles.{article_of, without_article, CanChange};
     ghost use Rattle.wiki_parts.specs.Faults.{IsFault};
     ghost use Rattle.wiki_parts.specs.Holding.{first_holding, IsKept};
-    ghost use Rattle.wiki_parts.specs.Knowledge.{sentences_in, GetStatus};
+    ghost use Rattle.logic_terms.specs.Shown.{claims_of};
+    ghost use Rattle.wiki_parts.specs.Kept.{MeanInEach};
+    ghost use Rattle.wiki_parts.specs.Knowledge.{sentences_in, GetStatus, Knows};
     ghost use Rattle.wiki_parts.specs.Places.{word_named};
     ghost use Rattle.wiki_parts.specs.State.{IsSound};
     ghost use Rattle.wiki_store.specs.Appending.{with_appended, SpendsAtEnd};
@@ -207,6 +210,27 @@ impl Store {
         ensures few { result ≤ MOST_SENTENCES }
     {
         self.base.sentence_count()
+    }
+
+    /// The articles, in order of the numbers of their words.
+    pub fn articles(&self) -> &[Article]
+        ensures { result.now ≡ self.now.state.articles }
+    {
+        self.base.articles()
+    }
+
+    /// What the sentences of each article mean, in the same order.
+    pub fn senses(&self) -> &[Senses]
+        ensures { MeanInEach self.now.state.grammar self.now.state.words self.now.state.articles result.now }
+    {
+        self.base.senses()
+    }
+
+    /// The axioms of all asserted sentences, articles in order of word number, sentences in order.
+    pub fn asserted(&self) -> &Axioms
+        ensures { Knows self.now.state (claims_of result.now) }
+    {
+        self.base.asserted()
     }
 }
 

@@ -33,6 +33,18 @@ returns-in-Some-Help g c =
           (λ is. absurd (helps_not _ outcomes.LinkFault _ _ ran.helps is));
     }
 
+pub returns-in-Some-Say : goal.returns-in-Some-Say
+returns-in-Some-Say g c =
+    let ran = c.say.ensures in
+    let is = asked_so _ _ _ _ c.from_words.ensures c.in-Some-Say.is c.in-Some-Say.field-0-is in
+    record { performs = performed _ _ _ _ _ is (ran.retells, refl) ran.read_fault ran.write_fault (λ is. absurd (ran.link_fault is)) }
+
+pub returns-in-Some-Why : goal.returns-in-Some-Why
+returns-in-Some-Why g c =
+    let ran = c.why.ensures in
+    let is = asked_so _ _ _ _ c.from_words.ensures c.in-Some-Why.is c.in-Some-Why.field-0-is in
+    record { performs = performed _ _ _ _ _ is (ran.retells, refl) ran.read_fault ran.write_fault (λ is. absurd (ran.link_fault is)) }
+
 pub returns-in-None : goal.returns-in-None
 returns-in-None g c = record {
   performs = performed _ _ _ _ _ (asked_none _ _ c.from_words.ensures c.in-None.is) (refl, refl) (λ is. absurd (cc is)) (λ is. absurd (cc is))

@@ -1,0 +1,17 @@
+//! Axioms said as sentences of the built-in grammar and of small ones: tests alone.
+#![tactic(auto)]
+
+#[cfg(test)]
+mod classes;
+#[cfg(test)]
+mod generated;
+#[cfg(test)]
+mod grammars;
+#[cfg(test)]
+mod rounds;
+#[cfg(test)]
+mod saying;
+#[cfg(test)]
+mod sentences;
+#[cfg(test)]
+mod tests;

@@ -109,7 +109,7 @@ answers_of_run first lines exchanges reached steps outside events last kept outs
   own = own_each events (map turn_in run.handlings) kept run.turns;
   last = last;
   run = Turns-append KeptStep first exchanges (flat_map exchange_in run.handlings) reached last steps.turns run.steps;
-  tokens = tokens_own first.state.pages.grammar;
+  tokens = tokens_own first.state.stored.grammar;
   journal = run.journal;
   responses = run.responses;
   whole = Delivers-whole (flat_map response_in run.handlings) outside.sent outside_after.sent outside.send_faults outside_after.send_faults run.responses;

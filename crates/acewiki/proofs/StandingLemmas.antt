@@ -9,6 +9,10 @@ use Rattle.wiki_base.specs.declared.text.TheConstants.{LONGEST_TEXT}
 use Rattle.wiki_io.specs.Lines.{text, input_lines}
 use Rattle.wiki_talk.specs.declared.requests.Request.{Request}
 use Rattle.wiki_talk.specs.declared.requests.Request.TheVariants as requests
+use Rattle.wiki_talk.specs.declared.requests.WikiRequest.TheVariants as on_wiki
+use Rattle.wiki_talk.specs.declared.requests.WordRequest.TheVariants as on_word
+use Rattle.wiki_talk.specs.declared.requests.ArticleRequest.TheVariants as on_article
+use Rattle.wiki_talk.specs.declared.requests.SessionRequest.TheVariants as on_session
 use Rattle.wiki_talk.specs.declared.replies.Reply.{Reply}
 use Rattle.wiki_talk.specs.declared.replies.Reply.TheVariants as replies
 use Rattle.wiki_talk.specs.Turns.{Exchange, answered, no_request, request_in, Turns}
@@ -21,7 +25,7 @@ use Rattle.serving.specs.Changes.{itself, with_shown, changes_told, changes_in a
 use Rattle.serving.proofs.JournalLaws.{asked-restart, length-journal_line}
 use Rattle.ace_grammar.specs.Grammar.{ace_grammar}
 use Rattle.ace_grammar.proofs.Soundness.{sound}
-use Rattle.wiki_core.specs.State.{State, first_state}
+use Rattle.plain_wiki.specs.State.{State, first_state}
 use Rattle.wiki_core.specs.Step.{Step}
 use Rattle.wiki_core.specs.Journaled.{own_change, shown_change, changes_by, changes_in, changes_of, asked_in, asked_of, is_spent_in, SpendsNone, IsPlainForm, GivesUtf8, HasShortPlace, HasPlainTexts, FitsLine, IsHeld, StandAlike}
 use Rattle.wiki_core.proofs.StandsLemmas.{stands_again}
@@ -37,48 +41,48 @@ use Rattle.acewiki.proofs.CompletenessLemmas.{does_what_is_free}
 
 same_itself : (r : Request) → itself r ≡ own_change r
 unfolding is_change
-same_itself (requests.Word kind forms) = refl
-same_itself (requests.Find word) = refl
-same_itself requests.Words = refl
-same_itself (requests.Parse sent) = refl
-same_itself (requests.Reword word forms) = refl
-same_itself (requests.Unword word) = refl
-same_itself (requests.Add article place sent) = refl
-same_itself (requests.Edit article place sent) = refl
-same_itself (requests.Remove article place) = refl
-same_itself (requests.Retract article place) = refl
-same_itself (requests.Reassert article place) = refl
-same_itself (requests.Read article) = refl
-same_itself (requests.Axioms article place) = refl
-same_itself (requests.Begin article) = refl
-same_itself (requests.Put session sent) = refl
-same_itself (requests.Back session) = refl
-same_itself (requests.Menu session) = refl
-same_itself (requests.Commit session) = refl
-same_itself (requests.Refresh session) = refl
-same_itself (requests.Drop session) = refl
+same_itself (requests.OnWiki (on_wiki.Word kind forms)) = refl
+same_itself (requests.OnWord word on_word.Find) = refl
+same_itself (requests.OnWiki on_wiki.Words) = refl
+same_itself (requests.OnWiki (on_wiki.Parse sent)) = refl
+same_itself (requests.OnWord word (on_word.Reword forms)) = refl
+same_itself (requests.OnWord word on_word.Unword) = refl
+same_itself (requests.OnArticle article (on_article.Add place sent)) = refl
+same_itself (requests.OnArticle article (on_article.Edit place sent)) = refl
+same_itself (requests.OnArticle article (on_article.Remove place)) = refl
+same_itself (requests.OnArticle article (on_article.Retract place)) = refl
+same_itself (requests.OnArticle article (on_article.Reassert place)) = refl
+same_itself (requests.OnArticle article on_article.Read) = refl
+same_itself (requests.OnArticle article (on_article.Axioms place)) = refl
+same_itself (requests.Open article) = refl
+same_itself (requests.OnSession session (on_session.Type sent)) = refl
+same_itself (requests.OnSession session on_session.Back) = refl
+same_itself (requests.OnSession session on_session.Menu) = refl
+same_itself (requests.OnSession session on_session.Commit) = refl
+same_itself (requests.OnSession session on_session.Refresh) = refl
+same_itself (requests.OnSession session on_session.Drop) = refl
 
 same_shown : (r : Request) (shown : List ℕ) → with_shown r shown ≡ shown_change r shown
-same_shown (requests.Word kind forms) shown = refl
-same_shown (requests.Find word) shown = refl
-same_shown requests.Words shown = refl
-same_shown (requests.Parse sent) shown = refl
-same_shown (requests.Reword word forms) shown = refl
-same_shown (requests.Unword word) shown = refl
-same_shown (requests.Add article place sent) shown = refl
-same_shown (requests.Edit article place sent) shown = refl
-same_shown (requests.Remove article place) shown = refl
-same_shown (requests.Retract article place) shown = refl
-same_shown (requests.Reassert article place) shown = refl
-same_shown (requests.Read article) shown = refl
-same_shown (requests.Axioms article place) shown = refl
-same_shown (requests.Begin article) shown = refl
-same_shown (requests.Put session sent) shown = refl
-same_shown (requests.Back session) shown = refl
-same_shown (requests.Menu session) shown = refl
-same_shown (requests.Commit session) shown = refl
-same_shown (requests.Refresh session) shown = refl
-same_shown (requests.Drop session) shown = refl
+same_shown (requests.OnWiki (on_wiki.Word kind forms)) shown = refl
+same_shown (requests.OnWord word on_word.Find) shown = refl
+same_shown (requests.OnWiki on_wiki.Words) shown = refl
+same_shown (requests.OnWiki (on_wiki.Parse sent)) shown = refl
+same_shown (requests.OnWord word (on_word.Reword forms)) shown = refl
+same_shown (requests.OnWord word on_word.Unword) shown = refl
+same_shown (requests.OnArticle article (on_article.Add place sent)) shown = refl
+same_shown (requests.OnArticle article (on_article.Edit place sent)) shown = refl
+same_shown (requests.OnArticle article (on_article.Remove place)) shown = refl
+same_shown (requests.OnArticle article (on_article.Retract place)) shown = refl
+same_shown (requests.OnArticle article (on_article.Reassert place)) shown = refl
+same_shown (requests.OnArticle article on_article.Read) shown = refl
+same_shown (requests.OnArticle article (on_article.Axioms place)) shown = refl
+same_shown (requests.Open article) shown = refl
+same_shown (requests.OnSession session (on_session.Type sent)) shown = refl
+same_shown (requests.OnSession session on_session.Back) shown = refl
+same_shown (requests.OnSession session on_session.Menu) shown = refl
+same_shown (requests.OnSession session on_session.Commit) shown = refl
+same_shown (requests.OnSession session on_session.Refresh) shown = refl
+same_shown (requests.OnSession session on_session.Drop) shown = refl
 
 same_changes : (r : Request) (reply : Reply) → changes_told r reply ≡ changes_by r reply
 same_changes r replies.Word = same_itself r
@@ -94,8 +98,8 @@ same_changes r (replies.Retract status) = same_itself r
 same_changes r (replies.Reassert status) = same_itself r
 same_changes r (replies.Read form revision sentences) = same_itself r
 same_changes r (replies.Axioms meant) = same_itself r
-same_changes r (replies.Begin session) = same_itself r
-same_changes r (replies.Put tokens) = same_itself r
+same_changes r (replies.Open session) = same_itself r
+same_changes r (replies.Type tokens) = same_itself r
 same_changes r (replies.Back tokens) = same_itself r
 same_changes r (replies.Menu menu whole shown) = same_itself r
 same_changes r (replies.Commit article status shown) = refl
@@ -133,34 +137,37 @@ one_number : (n : ℕ) → n ≤ LAST_NUMBER → All (λ n. n ≤ LAST_NUMBER) (
 one_number n is = All-cons (λ n. n ≤ LAST_NUMBER) n [] is no_number
 
 told_if_fits : (r : Request) → FitsLine r → IsToldChange r
-told_if_fits (requests.Word kind forms) (plain, place) =
+told_if_fits (requests.OnWiki (on_wiki.Word kind forms)) (plain, place) =
     (record { texts = forms_utf8 forms plain.0; numbers = no_number }, (forms_short forms plain.0, plain.1))
-told_if_fits (requests.Find word) (plain, place) = absurd plain
-told_if_fits requests.Words (plain, place) = absurd plain
-told_if_fits (requests.Parse sent) (plain, place) = absurd plain
-told_if_fits (requests.Reword word forms) (plain, place) = (
+told_if_fits (requests.OnWord word on_word.Find) (plain, place) = absurd plain
+told_if_fits (requests.OnWiki on_wiki.Words) (plain, place) = absurd plain
+told_if_fits (requests.OnWiki (on_wiki.Parse sent)) (plain, place) = absurd plain
+told_if_fits (requests.OnWord word (on_word.Reword forms)) (plain, place) = (
   record { texts = All-cons IsUtf8 word forms plain.0.0 (forms_utf8 forms plain.1.0); numbers = no_number },
   (plain.0.1, (forms_short forms plain.1.0, plain.1.1)),
 )
-told_if_fits (requests.Unword word) (plain, place) = (record { texts = one_text word plain.0; numbers = no_number }, plain.1)
-told_if_fits (requests.Add article None sent) (plain, place) =
+told_if_fits (requests.OnWord word on_word.Unword) (plain, place) = (record { texts = one_text word plain.0; numbers = no_number }, plain.1)
+told_if_fits (requests.OnArticle article (on_article.Add None sent)) (plain, place) =
     (record { texts = two_texts article sent plain.0.0 plain.1.0; numbers = no_number }, (plain.0.1, plain.1.1))
-told_if_fits (requests.Add article (Some at) sent) (plain, place) =
+told_if_fits (requests.OnArticle article (on_article.Add (Some at) sent)) (plain, place) =
     (record { texts = two_texts article sent plain.0.0 plain.1.0; numbers = one_number at place }, (plain.0.1, plain.1.1))
-told_if_fits (requests.Edit article at sent) (plain, place) =
+told_if_fits (requests.OnArticle article (on_article.Edit at sent)) (plain, place) =
     (record { texts = two_texts article sent plain.0.0 plain.1.0; numbers = one_number at place }, (plain.0.1, plain.1.1))
-told_if_fits (requests.Remove article at) (plain, place) = (record { texts = one_text article plain.0; numbers = one_number at place }, plain.1)
-told_if_fits (requests.Retract article at) (plain, place) = (record { texts = one_text article plain.0; numbers = one_number at place }, plain.1)
-told_if_fits (requests.Reassert article at) (plain, place) = (record { texts = one_text article plain.0; numbers = one_number at place }, plain.1)
-told_if_fits (requests.Read article) (plain, place) = absurd plain
-told_if_fits (requests.Axioms article place) (plain, at) = absurd plain
-told_if_fits (requests.Begin article) (plain, place) = absurd plain
-told_if_fits (requests.Put session sent) (plain, place) = absurd plain
-told_if_fits (requests.Back session) (plain, place) = absurd plain
-told_if_fits (requests.Menu session) (plain, place) = absurd plain
-told_if_fits (requests.Commit session) (plain, place) = absurd plain
-told_if_fits (requests.Refresh session) (plain, place) = absurd plain
-told_if_fits (requests.Drop session) (plain, place) = absurd plain
+told_if_fits (requests.OnArticle article (on_article.Remove at)) (plain, place) =
+    (record { texts = one_text article plain.0; numbers = one_number at place }, plain.1)
+told_if_fits (requests.OnArticle article (on_article.Retract at)) (plain, place) =
+    (record { texts = one_text article plain.0; numbers = one_number at place }, plain.1)
+told_if_fits (requests.OnArticle article (on_article.Reassert at)) (plain, place) =
+    (record { texts = one_text article plain.0; numbers = one_number at place }, plain.1)
+told_if_fits (requests.OnArticle article on_article.Read) (plain, place) = absurd plain
+told_if_fits (requests.OnArticle article (on_article.Axioms place)) (plain, at) = absurd plain
+told_if_fits (requests.Open article) (plain, place) = absurd plain
+told_if_fits (requests.OnSession session (on_session.Type sent)) (plain, place) = absurd plain
+told_if_fits (requests.OnSession session on_session.Back) (plain, place) = absurd plain
+told_if_fits (requests.OnSession session on_session.Menu) (plain, place) = absurd plain
+told_if_fits (requests.OnSession session on_session.Commit) (plain, place) = absurd plain
+told_if_fits (requests.OnSession session on_session.Refresh) (plain, place) = absurd plain
+told_if_fits (requests.OnSession session on_session.Drop) (plain, place) = absurd plain
 
 -- ---- parts of a list
 
@@ -285,7 +292,7 @@ module _ (budget : ℕ) (of_lines : List (Exchange Request Reply)) (handlings : 
       → map request_in of_lines ≡ map asked (input_lines former)
       → map request_in again ≡ map asked (input_lines (ended former ++ flat_map journal_in handlings))
       → Turns KeptStep (ace_wiki its_budget) again its_last
-      → SpendsNone (of_lines ++ events) → SpendsNone again → StandAlike last.state.pages its_last.state.pages
+      → SpendsNone (of_lines ++ events) → SpendsNone again → StandAlike last.state.stored its_last.state.stored
   stand its_budget former again its_last lines its_lines its_run none its_none =
       let cut = cut_turns of_lines events (ace_wiki budget) last run in
       let spends = spends_none of_lines events none in

@@ -23,7 +23,7 @@ StandsAsRead =
     → map request_in again ≡ map asked (input_lines (ended former ++ flat_map journal_in handlings))
     → Turns KeptStep (ace_wiki its_budget) again its_last
     → SpendsNone (of_lines ++ flat_map exchange_in handlings) → SpendsNone again
-    → StandAlike last.state.pages its_last.state.pages
+    → StandAlike last.state.stored its_last.state.stored
 
 -- In each such run what an event writes to the journal has at most `most_line` bytes, however long the text was that was sent.
 abbrev pub WritesShortLines : Type 0

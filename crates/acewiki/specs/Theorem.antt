@@ -131,7 +131,7 @@ pub record AnswersAsPlainWiki (first : Holding) (lines : List InputLine) (outsid
   pub own : AreOwn [] events (map turn_in handlings)
   pub last : Holding
   pub run : Turns KeptStep first (of_lines ++ flat_map exchange_in handlings) last
-  pub tokens : TokensAreOwn first.state.pages.grammar
+  pub tokens : TokensAreOwn first.state.stored.grammar
   pub journal : Appends outside.journal outside_after.journal (flat_map journal_in handlings)
   pub responses : Delivers (flat_map response_in handlings) outside.sent outside.send_faults outside_after.sent outside_after.send_faults
   pub whole : ¬ Rose outside.send_faults outside_after.send_faults → (n : ℕ) (sent sent_after : List (ℕ × List ℕ)) → outside.sent ≡ Some sent

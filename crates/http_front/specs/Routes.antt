@@ -12,8 +12,8 @@ use Rattle.http_front.specs.declared.goals.Verb.{Verb}
 use Rattle.http_front.specs.declared.goals.Verb.TheVariants.{Get, Post}
 use Rattle.http_front.specs.declared.goals.Goal.{Goal}
 use Rattle.http_front.specs.declared.goals.Goal.TheVariants.{Index, NewWord, Line, Article, Session, Editor, EditorFile}
-use Rattle.http_front.specs.declared.goals.OnArticle.{OnArticle}
-use Rattle.http_front.specs.declared.goals.OnArticle.TheVariants as on_article
+use Rattle.http_front.specs.declared.goals.InArticle.{InArticle}
+use Rattle.http_front.specs.declared.goals.InArticle.TheVariants as in_article
 use Rattle.http_front.specs.declared.goals.InSession.{InSession}
 use Rattle.http_front.specs.declared.goals.InSession.TheVariants as in_session
 
@@ -22,15 +22,15 @@ abbrev pub routes : List (List ℕ × Goal)
 routes =
     (codes "/", Index)
     ∷ (codes "/word", NewWord)
-    ∷ (codes "/article/{word}", Article on_article.Read)
-    ∷ (codes "/article/{word}/add", Article on_article.Add)
-    ∷ (codes "/article/{word}/edit", Article on_article.Edit)
-    ∷ (codes "/article/{word}/remove", Article on_article.Remove)
-    ∷ (codes "/article/{word}/retract", Article on_article.Retract)
-    ∷ (codes "/article/{word}/reassert", Article on_article.Reassert)
-    ∷ (codes "/article/{word}/open", Article on_article.Begin)
+    ∷ (codes "/article/{word}", Article in_article.Read)
+    ∷ (codes "/article/{word}/add", Article in_article.Add)
+    ∷ (codes "/article/{word}/edit", Article in_article.Edit)
+    ∷ (codes "/article/{word}/remove", Article in_article.Remove)
+    ∷ (codes "/article/{word}/retract", Article in_article.Retract)
+    ∷ (codes "/article/{word}/reassert", Article in_article.Reassert)
+    ∷ (codes "/article/{word}/open", Article in_article.Open)
     ∷ (codes "/session/{n}", Session in_session.Menu)
-    ∷ (codes "/session/{n}/type", Session in_session.Put)
+    ∷ (codes "/session/{n}/type", Session in_session.Type)
     ∷ (codes "/session/{n}/back", Session in_session.Back)
     ∷ (codes "/session/{n}/refresh", Session in_session.Refresh)
     ∷ (codes "/session/{n}/commit", Session in_session.Commit)
@@ -47,7 +47,7 @@ route_shown row = (row.0.now, row.1)
 -- pages and files are got, and all else is posted
 abbrev pub verb_of : Goal → Verb
 verb_of Index = Get
-verb_of (Article on_article.Read) = Get
+verb_of (Article in_article.Read) = Get
 verb_of (Session in_session.Menu) = Get
 verb_of Editor = Get
 verb_of EditorFile = Get

@@ -10,21 +10,21 @@ pub enum Verb {
 
 /// What is done with an article.
 #[derive(Clone, Copy, Debug, PartialEq, Eq)]
-pub enum OnArticle {
+pub enum InArticle {
     Read,
     Add,
     Edit,
     Remove,
     Retract,
     Reassert,
-    Begin,
+    Open,
 }
 
 /// What is done with a session.
 #[derive(Clone, Copy, Debug, PartialEq, Eq)]
 pub enum InSession {
     Menu,
-    Put,
+    Type,
     Back,
     Refresh,
     Commit,
@@ -40,7 +40,7 @@ pub enum Goal {
     NewWord,
     /// One request as a line of JSON.
     Line,
-    Article(OnArticle),
+    Article(InArticle),
     Session(InSession),
     /// The way to the editor page.
     Editor,
@@ -71,7 +71,7 @@ impl Goal {
     {
         match self {
             Goal::Index
-            | Goal::Article(OnArticle::Read)
+            | Goal::Article(InArticle::Read)
             | Goal::Session(InSession::Menu)
             | Goal::Editor
             | Goal::EditorFile => Verb::Get,

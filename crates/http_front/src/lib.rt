@@ -13,7 +13,7 @@ mod routes;
 mod seen;
 
 pub use front::Front;
-pub use goals::{Goal, InSession, OnArticle, Verb};
+pub use goals::{Goal, InArticle, InSession, Verb};
 pub use limits::{MOST_BODY, MOST_FIELDS, MOST_HEAD};
 pub use numbers::number_of;
 pub use seen::{Begun, Head, Own, Seen, Then};

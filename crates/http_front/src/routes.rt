@@ -4,7 +4,7 @@ ghost use Rattle.std.specs.List.{before_first};
 ghost use Rattle.matchit.specs.Seek.{first};
 ghost use Rattle.http_front.specs.Routes.{route_shown, routes, with_route, table, goal_at, path_of, segment_of, file_segment, segment_behind};
 
-use crate::goals::{Goal, InSession, OnArticle};
+use crate::goals::{Goal, InArticle, InSession};
 use matchit::{InsertError, Router};
 use std::alloc::Global;
 use wiki_base::Memory;
@@ -16,18 +16,18 @@ fn routes() -> &'static [(&'static str, Goal)]
     &[
         ("/", Goal::Index),
         ("/word", Goal::NewWord),
-        ("/article/{word}", Goal::Article(OnArticle::Read)),
-        ("/article/{word}/add", Goal::Article(OnArticle::Add)),
-        ("/article/{word}/edit", Goal::Article(OnArticle::Edit)),
-        ("/article/{word}/remove", Goal::Article(OnArticle::Remove)),
-        ("/article/{word}/retract", Goal::Article(OnArticle::Retract)),
+        ("/article/{word}", Goal::Article(InArticle::Read)),
+        ("/article/{word}/add", Goal::Article(InArticle::Add)),
+        ("/article/{word}/edit", Goal::Article(InArticle::Edit)),
+        ("/article/{word}/remove", Goal::Article(InArticle::Remove)),
+        ("/article/{word}/retract", Goal::Article(InArticle::Retract)),
         (
             "/article/{word}/reassert",
-            Goal::Article(OnArticle::Reassert),
+            Goal::Article(InArticle::Reassert),
         ),
-        ("/article/{word}/open", Goal::Article(OnArticle::Begin)),
+        ("/article/{word}/open", Goal::Article(InArticle::Open)),
         ("/session/{n}", Goal::Session(InSession::Menu)),
-        ("/session/{n}/type", Goal::Session(InSession::Put)),
+        ("/session/{n}/type", Goal::Session(InSession::Type)),
         ("/session/{n}/back", Goal::Session(InSession::Back)),
         ("/session/{n}/refresh", Goal::Session(InSession::Refresh)),
         ("/session/{n}/commit", Goal::Session(InSession::Commit)),

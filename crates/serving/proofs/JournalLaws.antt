@@ -5,6 +5,10 @@ use Rattle.std.proofs.lemmas.List.Elements.{All-head}
 use Rattle.wiki_io.specs.Lines.{InputLine, text, input_lines}
 use Rattle.wiki_talk.specs.declared.requests.Request.{Request}
 use Rattle.wiki_talk.specs.declared.requests.Request.TheVariants as requests
+use Rattle.wiki_talk.specs.declared.requests.WikiRequest.TheVariants as on_wiki
+use Rattle.wiki_talk.specs.declared.requests.WordRequest.TheVariants as on_word
+use Rattle.wiki_talk.specs.declared.requests.ArticleRequest.TheVariants as on_article
+use Rattle.wiki_talk.specs.declared.requests.SessionRequest.TheVariants as on_session
 use Rattle.wiki_talk.specs.declared.replies.Reply.{Reply}
 use Rattle.wiki_talk.specs.declared.replies.Reply.TheVariants as replies
 use Rattle.wire_json.specs.Requests.{request_of, request_line}
@@ -31,26 +35,26 @@ change_line-itself r = either r (is_change r)
 
 shown_line-with_shown : (r : Request) (shown : List ℕ) → shown_line r shown ≡ flat_map request_line (with_shown r shown)
 unfolding shown_line
-shown_line-with_shown (requests.Word kind forms) shown = refl
-shown_line-with_shown (requests.Find word) shown = refl
-shown_line-with_shown requests.Words shown = refl
-shown_line-with_shown (requests.Parse sent) shown = refl
-shown_line-with_shown (requests.Reword word forms) shown = refl
-shown_line-with_shown (requests.Unword word) shown = refl
-shown_line-with_shown (requests.Add article place sent) shown = written (requests.Add article place shown)
-shown_line-with_shown (requests.Edit article place sent) shown = written (requests.Edit article place shown)
-shown_line-with_shown (requests.Remove article place) shown = refl
-shown_line-with_shown (requests.Retract article place) shown = refl
-shown_line-with_shown (requests.Reassert article place) shown = refl
-shown_line-with_shown (requests.Read article) shown = refl
-shown_line-with_shown (requests.Axioms article place) shown = refl
-shown_line-with_shown (requests.Begin article) shown = refl
-shown_line-with_shown (requests.Put session sent) shown = refl
-shown_line-with_shown (requests.Back session) shown = refl
-shown_line-with_shown (requests.Menu session) shown = refl
-shown_line-with_shown (requests.Commit session) shown = refl
-shown_line-with_shown (requests.Refresh session) shown = refl
-shown_line-with_shown (requests.Drop session) shown = refl
+shown_line-with_shown (requests.OnWiki (on_wiki.Word kind forms)) shown = refl
+shown_line-with_shown (requests.OnWord word on_word.Find) shown = refl
+shown_line-with_shown (requests.OnWiki on_wiki.Words) shown = refl
+shown_line-with_shown (requests.OnWiki (on_wiki.Parse sent)) shown = refl
+shown_line-with_shown (requests.OnWord word (on_word.Reword forms)) shown = refl
+shown_line-with_shown (requests.OnWord word on_word.Unword) shown = refl
+shown_line-with_shown (requests.OnArticle article (on_article.Add place sent)) shown = written (requests.OnArticle article (on_article.Add place shown))
+shown_line-with_shown (requests.OnArticle article (on_article.Edit place sent)) shown = written (requests.OnArticle article (on_article.Edit place shown))
+shown_line-with_shown (requests.OnArticle article (on_article.Remove place)) shown = refl
+shown_line-with_shown (requests.OnArticle article (on_article.Retract place)) shown = refl
+shown_line-with_shown (requests.OnArticle article (on_article.Reassert place)) shown = refl
+shown_line-with_shown (requests.OnArticle article on_article.Read) shown = refl
+shown_line-with_shown (requests.OnArticle article (on_article.Axioms place)) shown = refl
+shown_line-with_shown (requests.Open article) shown = refl
+shown_line-with_shown (requests.OnSession session (on_session.Type sent)) shown = refl
+shown_line-with_shown (requests.OnSession session on_session.Back) shown = refl
+shown_line-with_shown (requests.OnSession session on_session.Menu) shown = refl
+shown_line-with_shown (requests.OnSession session on_session.Commit) shown = refl
+shown_line-with_shown (requests.OnSession session on_session.Refresh) shown = refl
+shown_line-with_shown (requests.OnSession session on_session.Drop) shown = refl
 
 -- the line of an accepted change is that of the request that makes it again
 pub journal_line-changes : (request : Request) (reply : Reply) → journal_line request reply ≡ flat_map request_line (changes_told request reply)
@@ -68,11 +72,11 @@ journal_line-changes r (replies.Retract status) = change_line-itself r
 journal_line-changes r (replies.Reassert status) = change_line-itself r
 journal_line-changes r (replies.Read form revision sentences) = change_line-itself r
 journal_line-changes r (replies.Axioms meant) = change_line-itself r
-journal_line-changes r (replies.Begin session) = change_line-itself r
-journal_line-changes r (replies.Put tokens) = change_line-itself r
+journal_line-changes r (replies.Open session) = change_line-itself r
+journal_line-changes r (replies.Type tokens) = change_line-itself r
 journal_line-changes r (replies.Back tokens) = change_line-itself r
 journal_line-changes r (replies.Menu menu whole shown) = change_line-itself r
-journal_line-changes r (replies.Commit article status shown) = written (requests.Add article None shown)
+journal_line-changes r (replies.Commit article status shown) = written (requests.OnArticle article (on_article.Add None shown))
 journal_line-changes r replies.Refresh = change_line-itself r
 journal_line-changes r replies.Drop = change_line-itself r
 journal_line-changes r (replies.Refused refusal) = refl
@@ -89,26 +93,26 @@ few-itself r true = omega arith
 few-itself r false = omega arith
 
 few-shown : (r : Request) (shown : List ℕ) → length (with_shown r shown) ≤ 1
-few-shown (requests.Word kind forms) shown = omega arith
-few-shown (requests.Find word) shown = omega arith
-few-shown requests.Words shown = omega arith
-few-shown (requests.Parse sent) shown = omega arith
-few-shown (requests.Reword word forms) shown = omega arith
-few-shown (requests.Unword word) shown = omega arith
-few-shown (requests.Add article place sent) shown = omega arith
-few-shown (requests.Edit article place sent) shown = omega arith
-few-shown (requests.Remove article place) shown = omega arith
-few-shown (requests.Retract article place) shown = omega arith
-few-shown (requests.Reassert article place) shown = omega arith
-few-shown (requests.Read article) shown = omega arith
-few-shown (requests.Axioms article place) shown = omega arith
-few-shown (requests.Begin article) shown = omega arith
-few-shown (requests.Put session sent) shown = omega arith
-few-shown (requests.Back session) shown = omega arith
-few-shown (requests.Menu session) shown = omega arith
-few-shown (requests.Commit session) shown = omega arith
-few-shown (requests.Refresh session) shown = omega arith
-few-shown (requests.Drop session) shown = omega arith
+few-shown (requests.OnWiki (on_wiki.Word kind forms)) shown = omega arith
+few-shown (requests.OnWord word on_word.Find) shown = omega arith
+few-shown (requests.OnWiki on_wiki.Words) shown = omega arith
+few-shown (requests.OnWiki (on_wiki.Parse sent)) shown = omega arith
+few-shown (requests.OnWord word (on_word.Reword forms)) shown = omega arith
+few-shown (requests.OnWord word on_word.Unword) shown = omega arith
+few-shown (requests.OnArticle article (on_article.Add place sent)) shown = omega arith
+few-shown (requests.OnArticle article (on_article.Edit place sent)) shown = omega arith
+few-shown (requests.OnArticle article (on_article.Remove place)) shown = omega arith
+few-shown (requests.OnArticle article (on_article.Retract place)) shown = omega arith
+few-shown (requests.OnArticle article (on_article.Reassert place)) shown = omega arith
+few-shown (requests.OnArticle article on_article.Read) shown = omega arith
+few-shown (requests.OnArticle article (on_article.Axioms place)) shown = omega arith
+few-shown (requests.Open article) shown = omega arith
+few-shown (requests.OnSession session (on_session.Type sent)) shown = omega arith
+few-shown (requests.OnSession session on_session.Back) shown = omega arith
+few-shown (requests.OnSession session on_session.Menu) shown = omega arith
+few-shown (requests.OnSession session on_session.Commit) shown = omega arith
+few-shown (requests.OnSession session on_session.Refresh) shown = omega arith
+few-shown (requests.OnSession session on_session.Drop) shown = omega arith
 
 few-changes : (request : Request) (reply : Reply) → length (changes_told request reply) ≤ 1
 few-changes r replies.Word = few-itself r (is_change r)
@@ -124,8 +128,8 @@ few-changes r (replies.Retract status) = few-itself r (is_change r)
 few-changes r (replies.Reassert status) = few-itself r (is_change r)
 few-changes r (replies.Read form revision sentences) = few-itself r (is_change r)
 few-changes r (replies.Axioms meant) = few-itself r (is_change r)
-few-changes r (replies.Begin session) = few-itself r (is_change r)
-few-changes r (replies.Put tokens) = few-itself r (is_change r)
+few-changes r (replies.Open session) = few-itself r (is_change r)
+few-changes r (replies.Type tokens) = few-itself r (is_change r)
 few-changes r (replies.Back tokens) = few-itself r (is_change r)
 few-changes r (replies.Menu menu whole shown) = few-itself r (is_change r)
 few-changes r (replies.Commit article status shown) = omega arith

@@ -12,7 +12,9 @@ use Rattle.editor.specs.Editing.{typed, IsInMenu}
 use Rattle.editor.specs.Rebasing.{IsRebased}
 use Rattle.wiki_talk.specs.declared.requests.Request.{Request}
 use Rattle.wiki_talk.specs.declared.requests.Request.TheVariants as requests
-use Rattle.wiki_parts.specs.Words.{forms_given}
+use Rattle.wiki_talk.specs.declared.requests.WikiRequest.TheVariants as on_wiki
+use Rattle.wiki_talk.specs.declared.requests.WordRequest.TheVariants as on_word
+use Rattle.plain_wiki.specs.Words.{forms_given}
 use Rattle.wiki_core.specs.Apart as apart
 use Rattle.wiki_core.proofs.SeenLemmas.{Own, RebasesOwn, ended}
 
@@ -23,16 +25,16 @@ pub record Seen : Type 0 where
 
 -- a request that changes words makes these of those
 abbrev pub WordsChange : Listed → Request → Listed → Type 0
-WordsChange old (requests.Word kind forms) new = new ≡ with_word old (forms_given kind forms)
-WordsChange old (requests.Reword form texts) new =
+WordsChange old (requests.OnWiki (on_wiki.Word kind forms)) new = new ≡ with_word old (forms_given kind forms)
+WordsChange old (requests.OnWord form (on_word.Reword texts)) new =
     (word : WordId) × (forms : Forms) × (owner old.live form ≡ Some word) × (forms_of old.live word ≡ Some forms)
     × (new ≡ with_forms old word (forms_given forms.kind texts))
-WordsChange old (requests.Unword form) new = (word : WordId) × (owner old.live form ≡ Some word) × (new ≡ without_word old word)
+WordsChange old (requests.OnWord form on_word.Unword) new = (word : WordId) × (owner old.live form ≡ Some word) × (new ≡ without_word old word)
 WordsChange old request new = ⊥
 
 -- what a session sees of itself by a request that changes words
 abbrev pub OwnChanges : GrammarParts → Listed → Request → Listed → Option Own → Option Own → Type 0
-OwnChanges g old (requests.Unword form) words was is =
+OwnChanges g old (requests.OnWord form on_word.Unword) words was is =
     (word : WordId) × (mid : Option Own) × (owner old.live form ≡ Some word) × RebasesOwn g words was mid × (is ≡ ended word mid)
 OwnChanges g old request words was is = RebasesOwn g words was is
 
@@ -94,13 +96,13 @@ own_rebased_one g words (Some old) one other (tokens, rebased, is) (its_tokens, 
     (rebased_one g words old.tokens tokens its_tokens rebased its_rebased) ∙ sym is
 
 words_one : (old : Listed) (request : Request) (one other : Listed) → WordsChange old request one → WordsChange old request other → other ≡ one
-words_one old (requests.Word kind forms) one other is its = its ∙ sym is
-words_one old (requests.Reword form texts) one other (word, forms, named, of_word, is) (its_word, its_forms, its_named, its_of_word, its) =
+words_one old (requests.OnWiki (on_wiki.Word kind forms)) one other is its = its ∙ sym is
+words_one old (requests.OnWord form (on_word.Reword texts)) one other (word, forms, named, of_word, is) (its_word, its_forms, its_named, its_of_word, its) =
     let same_word : its_word ≡ word = same_Some its_word word (sym its_named ∙ named) in
     let same_forms : its_forms ≡ forms = same_Some its_forms forms (sym its_of_word ∙ ap (forms_of old.live) same_word ∙ of_word) in
     its ∙ ap (λ (w : WordId). with_forms old w (forms_given its_forms.kind texts)) same_word
     ∙ ap (λ (f : Forms). with_forms old word (forms_given f.kind texts)) same_forms ∙ sym is
-words_one old (requests.Unword form) one other (word, named, is) (its_word, its_named, its) =
+words_one old (requests.OnWord form on_word.Unword) one other (word, named, is) (its_word, its_named, its) =
     let same_word : its_word ≡ word = same_Some its_word word (sym its_named ∙ named) in
     its ∙ ap (without_word old) same_word ∙ sym is
 words_one old request one other is its = absurd is
@@ -108,7 +110,7 @@ words_one old request one other is its = absurd is
 -- where words change to the same, the session sees the same of itself
 own_one : (g : GrammarParts) (old : Listed) (request : Request) (words : Listed) (was one other : Option Own) → OwnChanges g old request words was one
     → OwnChanges g old request words was other → other ≡ one
-own_one g old (requests.Unword form) words was one other (word, mid, named, rebased, is) (its_word, its_mid, its_named, its_rebased, its) =
+own_one g old (requests.OnWord form on_word.Unword) words was one other (word, mid, named, rebased, is) (its_word, its_mid, its_named, its_rebased, its) =
     let same_word : its_word ≡ word = same_Some its_word word (sym its_named ∙ named) in
     let same_mid = own_rebased_one g words was mid its_mid rebased its_rebased in
     its ∙ ap (λ (w : WordId). ended w its_mid) same_word ∙ ap (ended word) same_mid ∙ sym is

@@ -18,12 +18,12 @@ use Rattle.articles.specs.declared.article.Article.{Article}
 use Rattle.articles.specs.Articles.{article_of, without_article as without}
 use Rattle.sessions.specs.declared.session.Session.{Session}
 use Rattle.sessions.specs.Sessions.{PlainSession, plain, all_plain, session_of, new_session, with_change, with_tokens, without_session, without_article, is_on, has_number, HasSession, AreSessions, AreRebased, IsRebasedSession, AreKept}
-use Rattle.wiki_parts.specs.State as parts
+use Rattle.plain_wiki.specs.Stored.{Stored}
 use Rattle.logic_terms.specs.Interpretation.{Interpretation}
 use Rattle.derivation_trees.specs.Partial.{IsTypeable}
 use Rattle.sessions.proofs.KeepingLaws.{kept_typeable}
 use Rattle.wiki_parts.specs.Holding as holding
-use Rattle.wiki_core.specs.State.{State, IsOnArticle, AreInOrder}
+use Rattle.plain_wiki.specs.State.{State, IsOnArticle, AreInOrder}
 use Rattle.wiki_core.specs.Holding.{IsKeptSession, IsKept as IsKeptWiki}
 use Rattle.wiki_core.specs.Keeping.{AreHeld}
 use Rattle.wiki_core.proofs.KeyLaws.{changed_at, find_changed, found_has, only_one, all_changed, all_filtered, pairs_head}
@@ -44,26 +44,26 @@ pub record Fits (articles : List Article) (last : ℕ) (session : PlainSession) 
   pub numbered : session.number.0 ≤ last
 
 -- what is held is that the editors keep the readings, and that each session fits
-pub fits_each : (pages : parts.State) (sessions : List Session) (last : ℕ) → AreHeld pages sessions last → All (Fits pages.articles last) (all_plain sessions)
-fits_each pages sessions last held = together (all_plain sessions) held.on held.numbered
+pub fits_each : (stored : Stored) (sessions : List Session) (last : ℕ) → AreHeld stored sessions last → All (Fits stored.articles last) (all_plain sessions)
+fits_each stored sessions last held = together (all_plain sessions) held.on held.numbered
   where
-    together : (list : List PlainSession) → All (IsOnArticle pages.articles) list
-        → All (λ session. session.number.0 ≤ last) list → All (Fits pages.articles last) list
-    together [] on numbered = All-nil (Fits pages.articles last)
-    together (s ∷ list) on numbered = All-cons (Fits pages.articles last) s list
-        (record { on = All-head (IsOnArticle pages.articles) s list on; numbered = All-head (λ (t : PlainSession). t.number.0 ≤ last) s list numbered })
-        (together list (All-tail (IsOnArticle pages.articles) s list on) (All-tail (λ (t : PlainSession). t.number.0 ≤ last) s list numbered))
+    together : (list : List PlainSession) → All (IsOnArticle stored.articles) list
+        → All (λ session. session.number.0 ≤ last) list → All (Fits stored.articles last) list
+    together [] on numbered = All-nil (Fits stored.articles last)
+    together (s ∷ list) on numbered = All-cons (Fits stored.articles last) s list
+        (record { on = All-head (IsOnArticle stored.articles) s list on; numbered = All-head (λ (t : PlainSession). t.number.0 ≤ last) s list numbered })
+        (together list (All-tail (IsOnArticle stored.articles) s list on) (All-tail (λ (t : PlainSession). t.number.0 ≤ last) s list numbered))
 
-pub held_by : (pages : parts.State) (sessions : List Session) (last : ℕ) → AreKept pages.grammar pages.words sessions
-    → All (Fits pages.articles last) (all_plain sessions) → AreHeld pages sessions last
-held_by pages sessions last kept fit = record {
+pub held_by : (stored : Stored) (sessions : List Session) (last : ℕ) → AreKept stored.grammar stored.words sessions
+    → All (Fits stored.articles last) (all_plain sessions) → AreHeld stored sessions last
+held_by stored sessions last kept fit = record {
   kept = kept;
-  on = All-weaker (Fits pages.articles last) (IsOnArticle pages.articles) (λ s f. f.on) (all_plain sessions) fit;
-  numbered = All-weaker (Fits pages.articles last) (λ s. s.number.0 ≤ last) (λ s f. f.numbered) (all_plain sessions) fit;
+  on = All-weaker (Fits stored.articles last) (IsOnArticle stored.articles) (λ s f. f.on) (all_plain sessions) fit;
+  numbered = All-weaker (Fits stored.articles last) (λ s. s.number.0 ≤ last) (λ s f. f.numbered) (all_plain sessions) fit;
 }
 
 -- where no words change, and each article goes on
-pub held_over : (old new : parts.State) (sessions : List Session) (last : ℕ) → AreHeld old sessions last → KeepsWords old new → AreHeld new sessions last
+pub held_over : (old new : Stored) (sessions : List Session) (last : ℕ) → AreHeld old sessions last → KeepsWords old new → AreHeld new sessions last
 held_over old new sessions last held keeps = held_by new sessions last
     (let to_grammar = subst (λ (g : GrammarParts). AreKept g old.words sessions) (sym keeps.grammar) held.kept in
     subst (λ (words : Listed). AreKept new.grammar words sessions) (sym keeps.words) to_grammar)
@@ -71,41 +71,41 @@ held_over old new sessions last held keeps = held_by new sessions last
     (fits_each old sessions last held))
 
 -- where a session is opened
-pub held_opened : (pages : parts.State) (old new : List Session) (last : ℕ) (number : SessionId) (word : WordId) (revision : Rev) (article : Article)
-    → AreHeld pages old last → number.0 ≡ last + 1 → article_of pages.articles word ≡ Some article → article.revision ≡ revision
-    → all_plain new ≡ all_plain old ++ new_session number word revision ∷ [] → AreKept pages.grammar pages.words new → AreHeld pages new number.0
-held_opened pages old new last number word revision article held is_next there at opened kept = held_by pages new number.0 kept
-    (subst (All (Fits pages.articles number.0)) (sym opened)
-    (All-append (Fits pages.articles number.0) (all_plain old) (new_session number word revision ∷ [])
-    (All-weaker (Fits pages.articles last) (Fits pages.articles number.0)
-    (λ s f. record { on = f.on; numbered = (let below = f.numbered in omega (arith, below, is_next)) }) (all_plain old) (fits_each pages old last held))
-    (All-cons (Fits pages.articles number.0) (new_session number word revision) [] fresh (All-nil (Fits pages.articles number.0)))))
+pub held_opened : (stored : Stored) (old new : List Session) (last : ℕ) (number : SessionId) (word : WordId) (revision : Rev) (article : Article)
+    → AreHeld stored old last → number.0 ≡ last + 1 → article_of stored.articles word ≡ Some article → article.revision ≡ revision
+    → all_plain new ≡ all_plain old ++ new_session number word revision ∷ [] → AreKept stored.grammar stored.words new → AreHeld stored new number.0
+held_opened stored old new last number word revision article held is_next there at opened kept = held_by stored new number.0 kept
+    (subst (All (Fits stored.articles number.0)) (sym opened)
+    (All-append (Fits stored.articles number.0) (all_plain old) (new_session number word revision ∷ [])
+    (All-weaker (Fits stored.articles last) (Fits stored.articles number.0)
+    (λ s f. record { on = f.on; numbered = (let below = f.numbered in omega (arith, below, is_next)) }) (all_plain old) (fits_each stored old last held))
+    (All-cons (Fits stored.articles number.0) (new_session number word revision) [] fresh (All-nil (Fits stored.articles number.0)))))
   where
     same : revision.0 ≡ article.revision.0
     same = ap (λ (r : Rev). r.0) (sym at)
 
-    fresh : Fits pages.articles number.0 (new_session number word revision)
+    fresh : Fits stored.articles number.0 (new_session number word revision)
     fresh = record { on = record { article = article; there = there; seen = omega (arith, same) }; numbered = omega arith }
 
 -- where one session changes, and each article goes on
-pub held_changed : (pages after : parts.State) (old new : List Session) (last : ℕ) (number : SessionId) (change : PlainSession → PlainSession)
+pub held_changed : (stored after : Stored) (old new : List Session) (last : ℕ) (number : SessionId) (change : PlainSession → PlainSession)
     (found : PlainSession)
-    → AreHeld pages old last → AreInOrder (all_plain old) → session_of (all_plain old) number ≡ Some found → GoOn pages.articles after.articles
+    → AreHeld stored old last → AreInOrder (all_plain old) → session_of (all_plain old) number ≡ Some found → GoOn stored.articles after.articles
     → AreKept after.grammar after.words new → all_plain new ≡ with_change (all_plain old) number change → Fits after.articles last (change found)
     → AreHeld after new last
-held_changed pages after old new last number change found held in_order is_found goes_on kept is_changed fits = held_by after new last kept
+held_changed stored after old new last number change found held in_order is_found goes_on kept is_changed fits = held_by after new last kept
     (subst (All (Fits after.articles last)) (sym is_changed)
-    (all_changed (Fits pages.articles last) (Fits after.articles last) (λ (s : PlainSession). s.number.0) number.0 change found
-    (λ s f. record { on = goes_on s f.on; numbered = f.numbered }) fits (all_plain old) (fits_each pages old last held)
+    (all_changed (Fits stored.articles last) (Fits after.articles last) (λ (s : PlainSession). s.number.0) number.0 change found
+    (λ s f. record { on = goes_on s f.on; numbered = f.numbered }) fits (all_plain old) (fits_each stored old last held)
     (only_one (λ (s : PlainSession). s.number.0) number.0 (all_plain old) in_order found is_found)))
 
 -- where a session ends
-pub held_without : (pages : parts.State) (old new : List Session) (last : ℕ) (number : SessionId) → AreHeld pages old last
-    → AreKept pages.grammar pages.words new → all_plain new ≡ without_session (all_plain old) number → AreHeld pages new last
-held_without pages old new last number held kept ended = held_by pages new last kept
-    (subst (All (Fits pages.articles last)) (sym ended)
-    (all_filtered (Fits pages.articles last) (Fits pages.articles last) (λ (s : PlainSession). not (s.number.0 == number.0)) (λ s passes f. f)
-    (all_plain old) (fits_each pages old last held)))
+pub held_without : (stored : Stored) (old new : List Session) (last : ℕ) (number : SessionId) → AreHeld stored old last
+    → AreKept stored.grammar stored.words new → all_plain new ≡ without_session (all_plain old) number → AreHeld stored new last
+held_without stored old new last number held kept ended = held_by stored new last kept
+    (subst (All (Fits stored.articles last)) (sym ended)
+    (all_filtered (Fits stored.articles last) (Fits stored.articles last) (λ (s : PlainSession). not (s.number.0 == number.0)) (λ s passes f. f)
+    (all_plain old) (fits_each stored old last held)))
 
 -- rebased sessions fit as they did
 pub fits_rebased : (g : GrammarParts) (words : Listed) (articles : List Article) (last : ℕ) (old new : List PlainSession) → AreRebased g words old new
@@ -126,25 +126,25 @@ fits_rebased g words articles last (o ∷ old) (n ∷ new) rebased fit =
         }
 
 -- where words get other forms
-pub held_rebased : (pages : parts.State) (words : Listed) (old new : List Session) (last : ℕ) → AreHeld pages old last → AreKept pages.grammar words new
-    → AreRebased pages.grammar words (all_plain old) (all_plain new) → AreHeld (record pages { words = words }) new last
-held_rebased pages words old new last held kept rebased =
-    held_by (record pages { words = words }) new last kept
-    (fits_rebased pages.grammar words pages.articles last (all_plain old) (all_plain new) rebased (fits_each pages old last held))
+pub held_rebased : (stored : Stored) (words : Listed) (old new : List Session) (last : ℕ) → AreHeld stored old last → AreKept stored.grammar words new
+    → AreRebased stored.grammar words (all_plain old) (all_plain new) → AreHeld (record stored { words = words }) new last
+held_rebased stored words old new last held kept rebased =
+    held_by (record stored { words = words }) new last kept
+    (fits_rebased stored.grammar words stored.articles last (all_plain old) (all_plain new) rebased (fits_each stored old last held))
 
 -- where a word goes with its article, and the sessions on it end
-pub held_ended : (pages : parts.State) (words : Listed) (word : WordId) (old new : List Session) (rebased : List PlainSession) (last : ℕ)
-    → AreHeld pages old last
-    → AreKept pages.grammar words new → AreRebased pages.grammar words (all_plain old) rebased → all_plain new ≡ without_article rebased word
-    → AreHeld (record pages { words = words; articles = without pages.articles word }) new last
-held_ended pages words word old new rebased last held kept is_rebased ended =
-    held_by (record pages { words = words; articles = without pages.articles word }) new last kept
-    (subst (All (Fits (without pages.articles word) last)) (sym ended)
-    (all_filtered (Fits pages.articles last) (Fits (without pages.articles word) last) (λ (s : PlainSession). not (is_on word s)) stays rebased
-    (fits_rebased pages.grammar words pages.articles last (all_plain old) rebased is_rebased (fits_each pages old last held))))
+pub held_ended : (stored : Stored) (words : Listed) (word : WordId) (old new : List Session) (rebased : List PlainSession) (last : ℕ)
+    → AreHeld stored old last
+    → AreKept stored.grammar words new → AreRebased stored.grammar words (all_plain old) rebased → all_plain new ≡ without_article rebased word
+    → AreHeld (record stored { words = words; articles = without stored.articles word }) new last
+held_ended stored words word old new rebased last held kept is_rebased ended =
+    held_by (record stored { words = words; articles = without stored.articles word }) new last kept
+    (subst (All (Fits (without stored.articles word) last)) (sym ended)
+    (all_filtered (Fits stored.articles last) (Fits (without stored.articles word) last) (λ (s : PlainSession). not (is_on word s)) stays rebased
+    (fits_rebased stored.grammar words stored.articles last (all_plain old) rebased is_rebased (fits_each stored old last held))))
   where
-    stays : (s : PlainSession) → not (is_on word s) ≡ true → Fits pages.articles last s → Fits (without pages.articles word) last s
-    stays s passes f = record { on = go_on_ended pages.articles word s (not-true (is_on word s) passes) f.on; numbered = f.numbered }
+    stays : (s : PlainSession) → not (is_on word s) ≡ true → Fits stored.articles last s → Fits (without stored.articles word) last s
+    stays s passes f = record { on = go_on_ended stored.articles word s (not-true (is_on word s) passes) f.on; numbered = f.numbered }
 
 -- sessions in order are so without their editors
 pub plain_in_order : (sessions : List Session) → AllPairs (λ session later. session.number.0 < later.number.0) sessions → AreInOrder (all_plain sessions)
@@ -156,28 +156,28 @@ plain_in_order (s ∷ sessions) in_order =
     (plain_in_order sessions (AllPairs-tail (λ (session later : Session). session.number.0 < later.number.0) s sessions in_order))
 
 -- what the program keeps of each session is what the wiki promises of it
-kept_each : (state : State) (list : List PlainSession) → All (λ session. IsTypeable state.pages.grammar state.pages.words session.tokens) list
-    → All (λ session. length session.tokens ≤ MOST_TOKENS) list → All (IsOnArticle state.pages.articles) list → All (IsKeptSession state) list
+kept_each : (state : State) (list : List PlainSession) → All (λ session. IsTypeable state.stored.grammar state.stored.words session.tokens) list
+    → All (λ session. length session.tokens ≤ MOST_TOKENS) list → All (IsOnArticle state.stored.articles) list → All (IsKeptSession state) list
 kept_each state [] typeable short on = All-nil (IsKeptSession state)
 kept_each state (s ∷ list) typeable short on =
     All-cons (IsKeptSession state) s list
     (record {
-      typeable = All-head (λ (t : PlainSession). IsTypeable state.pages.grammar state.pages.words t.tokens) s list typeable;
+      typeable = All-head (λ (t : PlainSession). IsTypeable state.stored.grammar state.stored.words t.tokens) s list typeable;
       short = All-head (λ (t : PlainSession). length t.tokens ≤ MOST_TOKENS) s list short;
-      on = All-head (IsOnArticle state.pages.articles) s list on;
+      on = All-head (IsOnArticle state.stored.articles) s list on;
     })
-    (kept_each state list (All-tail (λ (t : PlainSession). IsTypeable state.pages.grammar state.pages.words t.tokens) s list typeable)
-    (All-tail (λ (t : PlainSession). length t.tokens ≤ MOST_TOKENS) s list short) (All-tail (IsOnArticle state.pages.articles) s list on))
+    (kept_each state list (All-tail (λ (t : PlainSession). IsTypeable state.stored.grammar state.stored.words t.tokens) s list typeable)
+    (All-tail (λ (t : PlainSession). length t.tokens ≤ MOST_TOKENS) s list short) (All-tail (IsOnArticle state.stored.articles) s list on))
 
 -- what the program keeps is what the wiki promises
-pub is_kept : (pages : parts.State) (interpretation : Interpretation) (sessions : List Session) (last : ℕ)
-    → holding.IsKept (record { state = pages; interpretation = interpretation }) → AreSessions sessions → AreHeld pages sessions last
-    → IsKeptWiki (record { state = record { pages = pages; sessions = all_plain sessions; last = last }; interpretation = interpretation })
-is_kept pages interpretation sessions last pages_kept are held = record {
-  pages = pages_kept;
+pub is_kept : (stored : Stored) (interpretation : Interpretation) (sessions : List Session) (last : ℕ)
+    → holding.IsKept (record { state = stored; interpretation = interpretation }) → AreSessions sessions → AreHeld stored sessions last
+    → IsKeptWiki (record { state = record { stored = stored; sessions = all_plain sessions; last = last }; interpretation = interpretation })
+is_kept stored interpretation sessions last pages_kept are held = record {
+  stored = pages_kept;
   sessions =
-      kept_each (record { pages = pages; sessions = all_plain sessions; last = last }) (all_plain sessions)
-      (kept_typeable pages.grammar pages.words sessions are held.kept)
+      kept_each (record { stored = stored; sessions = all_plain sessions; last = last }) (all_plain sessions)
+      (kept_typeable stored.grammar stored.words sessions are held.kept)
       (All-map (λ (t : PlainSession). length t.tokens ≤ MOST_TOKENS) plain sessions (λ k d bound. (are.edited k d bound).few)) held.on;
   in_order = plain_in_order sessions are.in_order;
   numbered = held.numbered;
@@ -185,44 +185,44 @@ is_kept pages interpretation sessions last pages_kept are held = record {
 }
 
 -- where one session's tokens change, whichever they are
-pub held_tokens : (pages : parts.State) (old new : List Session) (last : ℕ) (number : SessionId) (change : List (List ℕ) → List (List ℕ))
-    → AreHeld pages old last
-    → AreKept pages.grammar pages.words new → all_plain new ≡ with_change (all_plain old) number (with_tokens change) → AreHeld pages new last
-held_tokens pages old new last number change held kept is_changed = held_by pages new last kept
-    (subst (All (Fits pages.articles last)) (sym is_changed) (each (all_plain old) (fits_each pages old last held)))
+pub held_tokens : (stored : Stored) (old new : List Session) (last : ℕ) (number : SessionId) (change : List (List ℕ) → List (List ℕ))
+    → AreHeld stored old last
+    → AreKept stored.grammar stored.words new → all_plain new ≡ with_change (all_plain old) number (with_tokens change) → AreHeld stored new last
+held_tokens stored old new last number change held kept is_changed = held_by stored new last kept
+    (subst (All (Fits stored.articles last)) (sym is_changed) (each (all_plain old) (fits_each stored old last held)))
   where
-    by_test : (s : PlainSession) (b : Bool) → Fits pages.articles last s → Fits pages.articles last (cond b (with_tokens change s) s)
+    by_test : (s : PlainSession) (b : Bool) → Fits stored.articles last s → Fits stored.articles last (cond b (with_tokens change s) s)
     by_test s true f = record { on = record { article = f.on.article; there = f.on.there; seen = f.on.seen }; numbered = f.numbered }
     by_test s false f = f
 
-    each : (list : List PlainSession) → All (Fits pages.articles last) list → All (Fits pages.articles last) (with_change list number (with_tokens change))
-    each [] fit = All-nil (Fits pages.articles last)
+    each : (list : List PlainSession) → All (Fits stored.articles last) list → All (Fits stored.articles last) (with_change list number (with_tokens change))
+    each [] fit = All-nil (Fits stored.articles last)
     each (s ∷ list) fit =
-        All-cons (Fits pages.articles last) (cond (s.number.0 == number.0) (with_tokens change s) s) (with_change list number (with_tokens change))
-        (by_test s (s.number.0 == number.0) (All-head (Fits pages.articles last) s list fit)) (each list (All-tail (Fits pages.articles last) s list fit))
+        All-cons (Fits stored.articles last) (cond (s.number.0 == number.0) (with_tokens change s) s) (with_change list number (with_tokens change))
+        (by_test s (s.number.0 == number.0) (All-head (Fits stored.articles last) s list fit)) (each list (All-tail (Fits stored.articles last) s list fit))
 
 -- where a text is typed or not
-pub held_typed : (pages : parts.State) (old new : List Session) (last : ℕ) (number : SessionId) (change : List (List ℕ) → List (List ℕ))
-    (result : Result (Unit {0}) TypeFault) → AreHeld pages old last
-    → AreKept pages.grammar pages.words new → OnOk result (all_plain new ≡ with_change (all_plain old) number (with_tokens change)) → OnErr result (new ≡ old)
-    → AreHeld pages new last
-held_typed pages old new last number change (Ok done) held kept is_changed same = held_tokens pages old new last number change held kept is_changed
-held_typed pages old new last number change (Err fault) held kept is_changed same = subst (λ (list : List Session). AreHeld pages list last) (sym same) held
+pub held_typed : (stored : Stored) (old new : List Session) (last : ℕ) (number : SessionId) (change : List (List ℕ) → List (List ℕ))
+    (result : Result (Unit {0}) TypeFault) → AreHeld stored old last
+    → AreKept stored.grammar stored.words new → OnOk result (all_plain new ≡ with_change (all_plain old) number (with_tokens change)) → OnErr result (new ≡ old)
+    → AreHeld stored new last
+held_typed stored old new last number change (Ok done) held kept is_changed same = held_tokens stored old new last number change held kept is_changed
+held_typed stored old new last number change (Err fault) held kept is_changed same = subst (λ (list : List Session). AreHeld stored list last) (sym same) held
 
 -- where a token is dropped or there was none
-pub held_back : {P : Type 0} (pages : parts.State) (old new : List Session) (last : ℕ) (number : SessionId) (change : List (List ℕ) → List (List ℕ))
-    (result : Bool) → AreHeld pages old last
-    → AreKept pages.grammar pages.words new → (result ≡ true → all_plain new ≡ with_change (all_plain old) number (with_tokens change))
-    → (result ≡ false → P × (new ≡ old)) → AreHeld pages new last
-held_back pages old new last number change true held kept is_changed same = held_tokens pages old new last number change held kept (is_changed refl)
-held_back pages old new last number change false held kept is_changed same = subst (λ (list : List Session). AreHeld pages list last) (sym (same refl).1) held
+pub held_back : {P : Type 0} (stored : Stored) (old new : List Session) (last : ℕ) (number : SessionId) (change : List (List ℕ) → List (List ℕ))
+    (result : Bool) → AreHeld stored old last
+    → AreKept stored.grammar stored.words new → (result ≡ true → all_plain new ≡ with_change (all_plain old) number (with_tokens change))
+    → (result ≡ false → P × (new ≡ old)) → AreHeld stored new last
+held_back stored old new last number change true held kept is_changed same = held_tokens stored old new last number change held kept (is_changed refl)
+held_back stored old new last number change false held kept is_changed same = subst (λ (list : List Session). AreHeld stored list last) (sym (same refl).1) held
 
 -- the article that a session is on is there
-pub on_there : (pages : parts.State) (sessions : List Session) (last : ℕ) (number : SessionId) (session : PlainSession) → AreHeld pages sessions last
+pub on_there : (stored : Stored) (sessions : List Session) (last : ℕ) (number : SessionId) (session : PlainSession) → AreHeld stored sessions last
     → session_of (all_plain sessions) number ≡ Some session
-    → Fits pages.articles last session
-on_there pages sessions last number session held found =
-    found_has (Fits pages.articles last) (has_number number) (all_plain sessions) session (fits_each pages sessions last held) found
+    → Fits stored.articles last session
+on_there stored sessions last number session held found =
+    found_has (Fits stored.articles last) (has_number number) (all_plain sessions) session (fits_each stored sessions last held) found
 
 -- the word of an article lives
 pub lives_with_article : (articles : List Article) (live : List Word) (word : WordId) → map (λ article. article.word) articles ≡ map (λ w. w.id) live

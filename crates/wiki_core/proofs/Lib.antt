@@ -11,6 +11,7 @@ pub mod KnownTokens
 pub mod LineLemmas
 pub mod MenuLemmas
 pub mod OneStepLemmas
+pub mod PartedSteps
 pub mod PagesLemmas
 pub mod PartLemmas
 pub mod ReadableLemmas
@@ -18,6 +19,7 @@ pub mod ReadyLemmas
 pub mod RunLemmas
 pub mod SeenLemmas
 pub mod StandsLemmas
+pub mod StoredSteps
 pub mod ToldLemmas
 pub mod WholeStepLemmas
 pub mod WordLemmas

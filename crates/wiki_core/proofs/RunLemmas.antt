@@ -15,13 +15,17 @@ use Rattle.wiki_talk.specs.declared.replies.Reply.{Reply}
 use Rattle.wiki_talk.specs.declared.replies.Reply.TheVariants as replies
 use Rattle.wiki_talk.specs.declared.requests.Request.{Request}
 use Rattle.wiki_talk.specs.declared.requests.Request.TheVariants as requests
+use Rattle.wiki_talk.specs.declared.requests.WikiRequest.TheVariants as on_wiki
+use Rattle.wiki_talk.specs.declared.requests.WordRequest.TheVariants as on_word
+use Rattle.wiki_talk.specs.declared.requests.SessionRequest.TheVariants as on_session
 use Rattle.wiki_talk.specs.Turns.{answered}
-use Rattle.wiki_parts.specs.State as parts
-use Rattle.wiki_parts.specs.Words.{full_at}
-use Rattle.wiki_store.specs.Step as store
-use Rattle.wiki_core.specs.State.{State}
-use Rattle.wiki_core.specs.Causes.{session_numbered}
-use Rattle.wiki_core.specs.Step.{StepsPages, AreRebasedTo, Refuses, IsFree, StepsSession, begun_again}
+use Rattle.plain_wiki.specs.Stored.{Stored}
+use Rattle.plain_wiki.specs.Words.{full_at}
+use Rattle.wiki_core.proofs.StoredSteps as store
+use Rattle.plain_wiki.specs.State.{State}
+use Rattle.plain_wiki.specs.Causes.{session_numbered, NamesNoSession}
+use Rattle.wiki_core.proofs.PartedSteps.{StepsPages, Refuses, IsFree, StepsSession, only_one}
+use Rattle.plain_wiki.specs.Step.{AreRebasedTo, begun_again}
 use Rattle.wiki_core.specs.Apart as apart
 use Rattle.wiki_core.specs.Keeping.{changes_words}
 use Rattle.wiki_core.proofs.KeyLaws.{changed_at, find_changed}
@@ -31,7 +35,7 @@ use Rattle.wiki_core.proofs.HearLemmas.{Seen, WordsChange, OwnChanges, IsNotType
 
 -- what the session with the number sees of a wiki
 abbrev pub seen : State → ℕ → Seen
-seen state number = record { words = state.pages.words; own = own_of state.sessions number }
+seen state number = record { words = state.stored.words; own = own_of state.sessions number }
 
 -- the sessions' numbers rise up to the last one that was given
 abbrev pub IsApt : State → Type 0
@@ -39,18 +43,18 @@ IsApt state = RiseTo 0 state.last state.sessions
 
 -- a step over the grammar after which the numbers are apt still, and by which the session with the number hears this
 pub record Shows (g : GrammarParts) (old new : State) (number : ℕ) (heard : List apart.Heard) : Type 0 where
-  pub grammar : new.pages.grammar ≡ g
+  pub grammar : new.stored.grammar ≡ g
   pub apt : IsApt new
   pub later : old.last ≤ new.last
   pub follows : Follows g (seen old number) heard (seen new number)
 
 -- nothing changes
-pub shows_same : (g : GrammarParts) (old new : State) (number : ℕ) → old.pages.grammar ≡ g → IsApt old → new ≡ old → Shows g old new number []
+pub shows_same : (g : GrammarParts) (old new : State) (number : ℕ) → old.stored.grammar ≡ g → IsApt old → new ≡ old → Shows g old new number []
 shows_same g old new number over apt same =
     subst (λ (s : State). Shows g old s number []) (sym same) (record { grammar = over; apt = apt; later = omega arith; follows = refl })
 
 -- no words and no sessions change
-shows_pages : (g : GrammarParts) (old new : State) (number : ℕ) → old.pages.grammar ≡ g → IsApt old → KeepsWords old.pages new.pages
+shows_pages : (g : GrammarParts) (old new : State) (number : ℕ) → old.stored.grammar ≡ g → IsApt old → KeepsWords old.stored new.stored
     → new.sessions ≡ old.sessions → new.last ≡ old.last
     → Shows g old new number []
 shows_pages g old new number over apt keeps same last = record {
@@ -61,10 +65,11 @@ shows_pages g old new number over apt keeps same last = record {
 }
 
 -- words change, and each session is rebased
-shows_words : (g : GrammarParts) (old new : State) (number : ℕ) (request : Request) → old.pages.grammar ≡ g → IsApt old → new.pages.grammar ≡ old.pages.grammar
+shows_words : (g : GrammarParts) (old new : State) (number : ℕ) (request : Request) → old.stored.grammar ≡ g → IsApt old
+    → new.stored.grammar ≡ old.stored.grammar
     → new.last ≡ old.last
-    → RiseTo 0 old.last new.sessions → WordsChange old.pages.words request new.pages.words
-    → OwnChanges g old.pages.words request new.pages.words (own_of old.sessions number) (own_of new.sessions number)
+    → RiseTo 0 old.last new.sessions → WordsChange old.stored.words request new.stored.words
+    → OwnChanges g old.stored.words request new.stored.words (own_of old.sessions number) (own_of new.sessions number)
     → Shows g old new number (apart.changed request ∷ [])
 shows_words g old new number request over apt same last rise words changes = record {
   grammar = same ∙ over;
@@ -87,7 +92,7 @@ tells_unword replies.Unword = true
 tells_unword reply = false
 
 abbrev pub tells_begin : Reply → Bool
-tells_begin (replies.Begin session) = true
+tells_begin (replies.Open session) = true
 tells_begin reply = false
 
 abbrev pub tells_commit : Reply → Bool
@@ -96,72 +101,73 @@ tells_commit reply = false
 
 -- the number that a reply tells of an opened session
 abbrev pub session_told : Reply → ℕ
-session_told (replies.Begin session) = session
+session_told (replies.Open session) = session
 session_told reply = 0
 
-module _ (g : GrammarParts) (old new : State) (number : ℕ) (over : old.pages.grammar ≡ g) (apt : IsApt old) where
+module _ (g : GrammarParts) (old new : State) (number : ℕ) (over : old.stored.grammar ≡ g) (apt : IsApt old) where
   -- a rebased list of sessions, by the grammar itself
-  by_grammar : (sessions : List PlainSession) → new.pages.grammar ≡ old.pages.grammar → AreRebasedTo new.pages old.sessions sessions
-      → AreRebased g new.pages.words old.sessions sessions
-  by_grammar sessions same rebased = subst (λ (h : GrammarParts). AreRebased h new.pages.words old.sessions sessions) (same ∙ over) rebased
+  by_grammar : (sessions : List PlainSession) → new.stored.grammar ≡ old.stored.grammar → AreRebasedTo new.stored old.sessions sessions
+      → AreRebased g new.stored.words old.sessions sessions
+  by_grammar sessions same rebased = subst (λ (h : GrammarParts). AreRebased h new.stored.words old.sessions sessions) (same ∙ over) rebased
 
-  pub word_shows : (kind : Kind) (forms : List (List ℕ)) (reply : Reply) → StepsPages old (requests.Word kind forms) reply new
-      → Shows g old new number (apart.heard_of_words (answered (requests.Word kind forms) reply))
+  pub word_shows : (kind : Kind) (forms : List (List ℕ)) (reply : Reply) → StepsPages old (requests.OnWiki (on_wiki.Word kind forms)) reply new
+      → Shows g old new number (apart.heard_of_words (answered (requests.OnWiki (on_wiki.Word kind forms)) reply))
   word_shows kind forms (replies.Refused refusal) step =
-      shows_pages g old new number over apt (keeps_same old.pages new.pages step.pages.1) step.sessions step.last
+      shows_pages g old new number over apt (keeps_same old.stored new.stored step.stored.1) step.sessions step.last
   word_shows kind forms replies.Word step =
-      let same = ap (λ (s : parts.State). s.grammar) step.pages.1.after in
+      let same = ap (λ (s : Stored). s.grammar) step.stored.1.after in
       let rebased = by_grammar new.sessions same step.sessions in
-      shows_words g old new number (requests.Word kind forms) over apt same step.last
-      (rise_rebased g new.pages.words 0 old.last old.sessions new.sessions rebased apt)
-      (ap (λ (s : parts.State). s.words) step.pages.1.after) (rebased_own g new.pages.words old.sessions new.sessions number rebased)
-  word_shows kind forms reply step = absurd (false≢true (ap tells_word step.pages.1.answer))
+      shows_words g old new number (requests.OnWiki (on_wiki.Word kind forms)) over apt same step.last
+      (rise_rebased g new.stored.words 0 old.last old.sessions new.sessions rebased apt)
+      (ap (λ (s : Stored). s.words) step.stored.1.after) (rebased_own g new.stored.words old.sessions new.sessions number rebased)
+  word_shows kind forms reply step = absurd (false≢true (ap tells_word step.stored.1.answer))
 
-  pub reword_shows : (form : List ℕ) (forms : List (List ℕ)) (reply : Reply) → StepsPages old (requests.Reword form forms) reply new
-      → Shows g old new number (apart.heard_of_words (answered (requests.Reword form forms) reply))
+  pub reword_shows : (form : List ℕ) (forms : List (List ℕ)) (reply : Reply) → StepsPages old (requests.OnWord form (on_word.Reword forms)) reply new
+      → Shows g old new number (apart.heard_of_words (answered (requests.OnWord form (on_word.Reword forms)) reply))
   reword_shows form forms (replies.Refused refusal) step =
-      shows_pages g old new number over apt (keeps_same old.pages new.pages step.pages.1) step.sessions step.last
+      shows_pages g old new number over apt (keeps_same old.stored new.stored step.stored.1) step.sessions step.last
   reword_shows form forms replies.Reword step =
-      let does = step.pages.1 in
-      let same = ap (λ (s : parts.State). s.grammar) does.after in
+      let does = step.stored.1 in
+      let same = ap (λ (s : Stored). s.grammar) does.after in
       let rebased = by_grammar new.sessions same step.sessions in
-      shows_words g old new number (requests.Reword form forms) over apt same step.last
-      (rise_rebased g new.pages.words 0 old.last old.sessions new.sessions rebased apt)
-      (does.word, does.forms, does.named, does.of_word, ap (λ (s : parts.State). s.words) does.after)
-      (rebased_own g new.pages.words old.sessions new.sessions number rebased)
-  reword_shows form forms reply step = absurd (false≢true (ap tells_reword step.pages.1.answer))
+      shows_words g old new number (requests.OnWord form (on_word.Reword forms)) over apt same step.last
+      (rise_rebased g new.stored.words 0 old.last old.sessions new.sessions rebased apt)
+      (does.word, does.forms, does.named, does.of_word, ap (λ (s : Stored). s.words) does.after)
+      (rebased_own g new.stored.words old.sessions new.sessions number rebased)
+  reword_shows form forms reply step = absurd (false≢true (ap tells_reword step.stored.1.answer))
 
-  pub unword_shows : (form : List ℕ) (reply : Reply) → StepsPages old (requests.Unword form) reply new
-      → Shows g old new number (apart.heard_of_words (answered (requests.Unword form) reply))
-  unword_shows form (replies.Refused refusal) step = shows_pages g old new number over apt (keeps_same old.pages new.pages step.pages.1) step.sessions step.last
+  pub unword_shows : (form : List ℕ) (reply : Reply) → StepsPages old (requests.OnWord form on_word.Unword) reply new
+      → Shows g old new number (apart.heard_of_words (answered (requests.OnWord form on_word.Unword) reply))
+  unword_shows form (replies.Refused refusal) step =
+      shows_pages g old new number over apt (keeps_same old.stored new.stored step.stored.1) step.sessions step.last
   unword_shows form replies.Unword step =
-      let does = step.pages.1 in
+      let does = step.stored.1 in
       let end = step.sessions in
-      let same = ap (λ (s : parts.State). s.grammar) does.after in
+      let same = ap (λ (s : Stored). s.grammar) does.after in
       let rebased = by_grammar end.rebased same end.rebases in
-      let rise = rise_rebased g new.pages.words 0 old.last old.sessions end.rebased rebased apt in
-      shows_words g old new number (requests.Unword form) over apt same step.last
+      let rise = rise_rebased g new.stored.words 0 old.last old.sessions end.rebased rebased apt in
+      shows_words g old new number (requests.OnWord form on_word.Unword) over apt same step.last
       (subst (RiseTo 0 old.last) (sym end.ended) (rise_filter (λ s. not (is_on end.word s)) 0 old.last end.rebased rise))
-      (does.word, does.named, ap (λ (s : parts.State). s.words) does.after) (
+      (does.word, does.named, ap (λ (s : Stored). s.words) does.after) (
         end.word,
         own_of end.rebased number,
         end.named,
-        rebased_own g new.pages.words old.sessions end.rebased number rebased,
+        rebased_own g new.stored.words old.sessions end.rebased number rebased,
         ap (λ (sessions : List PlainSession). own_of sessions number) end.ended ∙ ended_own end.word number 0 old.last end.rebased rise,
       )
-  unword_shows form reply step = absurd (false≢true (ap tells_unword step.pages.1.answer))
+  unword_shows form reply step = absurd (false≢true (ap tells_unword step.stored.1.answer))
 
-  pub other_shows : (request : Request) (reply : Reply) → changes_words request ≡ false → store.Step old.pages request reply new.pages
+  pub other_shows : (request : Request) (reply : Reply) → changes_words request ≡ false → store.Step old.stored request reply new.stored
       → new.sessions ≡ old.sessions → new.last ≡ old.last
       → Shows g old new number []
   other_shows request reply no_words step same last =
-      shows_pages g old new number over apt (step_keeps old.pages new.pages request reply no_words step) same last
+      shows_pages g old new number over apt (step_keeps old.stored new.stored request reply no_words step) same last
 
   -- ---- requests on sessions, each refused or done
 
   -- the words stay where what is stored stays
   stays : (sessions : List PlainSession) → RiseTo 0 old.last sessions → new ≡ record old { sessions = sessions } → (heard : List apart.Heard)
-      → Follows g (seen old number) heard (record { words = old.pages.words; own = own_of sessions number }) → Shows g old new number heard
+      → Follows g (seen old number) heard (record { words = old.stored.words; own = own_of sessions number }) → Shows g old new number heard
   stays sessions rise same heard follows =
       subst (λ (s : State). Shows g old s number heard) (sym same) (record { grammar = over; apt = rise; later = omega arith; follows = follows })
 
@@ -169,90 +175,97 @@ module _ (g : GrammarParts) (old new : State) (number : ℕ) (over : old.pages.g
   one heard after goes = (after, goes, refl)
 
   -- a text is typed
-  not_typed : (text : List ℕ) (refusal : Refusal) → Refuses old (requests.Put number text) refusal
-      → OwnTypes g old.pages.words text (own_of old.sessions number) (own_of old.sessions number)
+  not_typed : (text : List ℕ) (refusal : Refusal) → Refuses old (requests.OnSession number (on_session.Type text)) refusal
+      → OwnTypes g old.stored.words text (own_of old.sessions number) (own_of old.sessions number)
   not_typed text refusal refused = by_case (session_of old.sessions (record { 0 = number })) refl
     where
       same_session : (s t : PlainSession) → session_of old.sessions (record { 0 = number }) ≡ Some s → session_numbered old number ≡ Some t → t ≡ s
       same_session s t is its = same_Some t s (sym its ∙ is)
 
-      why : (s : PlainSession) → session_of old.sessions (record { 0 = number }) ≡ Some s → Refuses old (requests.Put number text) refusal
-          → IsNotTyped g old.pages.words text s.tokens
-      why s is (inl gone) = absurd (none-some s (sym gone.none ∙ is))
-      why s is (inr (there, inl full)) = inl (subst (λ (t : PlainSession). MOST_TOKENS ≤ length t.tokens) (same_session s full.session is full.named) full.full)
+      why : (s : PlainSession) → session_of old.sessions (record { 0 = number }) ≡ Some s
+          → Refuses old (requests.OnSession number (on_session.Type text)) refusal
+          → IsNotTyped g old.stored.words text s.tokens
+      why s is (inl gone) = absurd (none-some s (sym gone.0 ∙ is))
+      why s is (inr (there, inl full)) = inl (subst (λ (t : PlainSession). MOST_TOKENS ≤ length t.tokens) (same_session s full.0 is full.1) full.2.0)
       why s is (inr (there, inr (not_full, inl not_offered))) =
-          let same = same_session s not_offered.session is not_offered.named in
-          let by_own : IsInMenu old.pages.grammar old.pages.words s.tokens (typed old.pages.grammar.terminals s.tokens text) → ⊥
-          = subst (λ (t : PlainSession). IsInMenu old.pages.grammar old.pages.words t.tokens (typed old.pages.grammar.terminals t.tokens text) → ⊥) same
-          not_offered.not_there in
+          let same = same_session s not_offered.0 is not_offered.1 in
+          let by_own : IsInMenu old.stored.grammar old.stored.words s.tokens (typed old.stored.grammar.terminals s.tokens text) → ⊥
+          = subst (λ (t : PlainSession). IsInMenu old.stored.grammar old.stored.words t.tokens (typed old.stored.grammar.terminals t.tokens text) → ⊥) same
+          not_offered.2.0 in
           inr (
-            λ many. not_full (full_at limits.Tokens) (record { session = s; named = is; full = many; told = refl }),
-            subst (λ (h : GrammarParts). IsInMenu h old.pages.words s.tokens (typed h.terminals s.tokens text) → ⊥) over by_own,
+            λ many. not_full (full_at limits.Tokens) (s, is, (many, refl)),
+            subst (λ (h : GrammarParts). IsInMenu h old.stored.words s.tokens (typed h.terminals s.tokens text) → ⊥) over by_own,
           )
       why s is (inr (there, inr (not_full, inr (offered, never)))) = absurd never
 
       by_case : (o : Option PlainSession) → session_of old.sessions (record { 0 = number }) ≡ o
-          → OwnTypes g old.pages.words text (option_map own o) (option_map own o)
+          → OwnTypes g old.stored.words text (option_map own o) (option_map own o)
       by_case None is = refl
       by_case (Some s) is = inl (why s is refused, refl)
 
-  typed_on : (text : List ℕ) (session : PlainSession) → session_numbered old number ≡ Some session → IsFree old (requests.Put number text)
-      → OwnTypes g old.pages.words text (own_of old.sessions number)
-      (option_map own (option_map (with_tokens (λ tokens. tokens ++ typed old.pages.grammar.terminals tokens text ∷ []))
+  typed_on : (text : List ℕ) (session : PlainSession) → session_numbered old number ≡ Some session
+      → IsFree old (requests.OnSession number (on_session.Type text))
+      → OwnTypes g old.stored.words text (own_of old.sessions number)
+      (option_map own (option_map (with_tokens (λ tokens. tokens ++ typed old.stored.grammar.terminals tokens text ∷ []))
       (session_of old.sessions (record { 0 = number }))))
   typed_on text session is free =
-      subst (λ (o : Option PlainSession). OwnTypes g old.pages.words text (option_map own o)
-      (option_map own (option_map (with_tokens (λ tokens. tokens ++ typed old.pages.grammar.terminals tokens text ∷ [])) o)))
+      subst (λ (o : Option PlainSession). OwnTypes g old.stored.words text (option_map own o)
+      (option_map own (option_map (with_tokens (λ tokens. tokens ++ typed old.stored.grammar.terminals tokens text ∷ [])) o)))
       (sym is) (inr (
         may,
         ap (λ (h : GrammarParts). Some
             (record { article = session.article; tokens = session.tokens ++ typed h.terminals session.tokens text ∷ [] })) over,
       ))
     where
-      may : IsNotTyped g old.pages.words text session.tokens → ⊥
+      may : IsNotTyped g old.stored.words text session.tokens → ⊥
       may (inl full) = free (full_at limits.Tokens)
-          (inr (λ other gone. none-some session (sym gone.none ∙ is), inl (record { session = session; named = is; full = full; told = refl })))
+          (inr (λ other gone. none-some session (sym gone.0 ∙ is), inl (session, is, (full, refl))))
       may (inr (not_full, not_there)) =
           free (NotOffered text) (inr (
-            λ other gone. none-some session (sym gone.none ∙ is),
+            λ other gone. none-some session (sym gone.0 ∙ is),
             inr (
-              λ other full. not_full (subst (λ (t : PlainSession). MOST_TOKENS ≤ length t.tokens) (same_Some full.session session (sym full.named ∙ is))
-                  full.full),
-              inl (record {
-                session = session;
-                named = is;
-                not_there = subst (λ (h : GrammarParts). IsInMenu h old.pages.words session.tokens (typed h.terminals session.tokens text) → ⊥) (sym over)
-                    not_there;
-                told = refl;
-              }),
+              λ other full. not_full (subst (λ (t : PlainSession). MOST_TOKENS ≤ length t.tokens) (same_Some full.0 session (sym full.1 ∙ is))
+                  full.2.0),
+              inl (
+                session,
+                is,
+                (
+                  subst (λ (h : GrammarParts). IsInMenu h old.stored.words session.tokens (typed h.terminals session.tokens text) → ⊥) (sym over)
+                      not_there,
+                  refl,
+                ),
+              ),
             ),
           ))
 
-  pub put_shows : (text : List ℕ) (reply : Reply) → StepsSession old (requests.Put number text) reply new → Shows g old new number (apart.typed text ∷ [])
+  pub put_shows : (text : List ℕ) (reply : Reply) → StepsSession old (requests.OnSession number (on_session.Type text)) reply new
+      → Shows g old new number (apart.typed text ∷ [])
   put_shows text (replies.Refused refusal) step =
       subst (λ (s : State). Shows g old s number (apart.typed text ∷ [])) (sym step.1)
       (record { grammar = over; apt = apt; later = omega arith; follows = one (apart.typed text) (seen old number) (refl, not_typed text refusal step.0) })
   put_shows text reply step =
-      let change = with_tokens (λ tokens. tokens ++ typed old.pages.grammar.terminals tokens text ∷ []) in
+      let change = with_tokens (λ tokens. tokens ++ typed old.stored.grammar.terminals tokens text ∷ []) in
       let sessions = with_change old.sessions (record { 0 = number }) change in
       stays sessions (rise_changed number change (λ s. refl) 0 old.last old.sessions apt) step.1.after (apart.typed text ∷ [])
-      (one (apart.typed text) (record { words = old.pages.words; own = own_of sessions number }) (
+      (one (apart.typed text) (record { words = old.stored.words; own = own_of sessions number }) (
         refl,
-        subst (λ (o : Option PlainSession). OwnTypes g old.pages.words text (own_of old.sessions number) (option_map own o))
+        subst (λ (o : Option PlainSession). OwnTypes g old.stored.words text (own_of old.sessions number) (option_map own o))
             (sym (changed_own old.sessions number change (λ s. refl)))
             (typed_on text step.1.session step.1.named step.0),
       ))
 
   -- a token is dropped
-  not_back : (refusal : Refusal) → Refuses old (requests.Back number) refusal → own_of old.sessions number ≡ option_map own_back (own_of old.sessions number)
+  not_back : (refusal : Refusal) → Refuses old (requests.OnSession number on_session.Back) refusal
+      → own_of old.sessions number ≡ option_map own_back (own_of old.sessions number)
   not_back refusal refused = by_case (session_of old.sessions (record { 0 = number })) refl refused
     where
-      by_case : (o : Option PlainSession) → session_of old.sessions (record { 0 = number }) ≡ o → Refuses old (requests.Back number) refusal
+      by_case : (o : Option PlainSession) → session_of old.sessions (record { 0 = number }) ≡ o
+          → Refuses old (requests.OnSession number on_session.Back) refusal
           → option_map own o ≡ option_map own_back (option_map own o)
       by_case None is refused = refl
-      by_case (Some s) is (inl gone) = absurd (none-some s (sym gone.none ∙ is))
+      by_case (Some s) is (inl gone) = absurd (none-some s (sym gone.0 ∙ is))
       by_case (Some s) is (inr (there, inl nothing)) =
-          let empty : s.tokens ≡ [] = ap (λ (t : PlainSession). t.tokens) (same_Some s nothing.session (sym is ∙ nothing.named)) ∙ nothing.none in
+          let empty : s.tokens ≡ [] = ap (λ (t : PlainSession). t.tokens) (same_Some s nothing.0 (sym is ∙ nothing.1)) ∙ nothing.2.0 in
           ap (λ (tokens : List (List ℕ)). Some (record { article = s.article; tokens = tokens }))
           (empty ∙ ap (λ (tokens : List (List ℕ)). take (length tokens - 1) tokens) (sym empty))
       by_case (Some s) is (inr (there, inr (some, never))) = absurd never
@@ -262,7 +275,7 @@ module _ (g : GrammarParts) (old new : State) (number : ℕ) (over : old.pages.g
   mapped_twice f h same None = refl
   mapped_twice f h same (Some s) = ap Some (same s)
 
-  pub back_shows : (reply : Reply) → StepsSession old (requests.Back number) reply new → Shows g old new number (apart.stepped_back ∷ [])
+  pub back_shows : (reply : Reply) → StepsSession old (requests.OnSession number on_session.Back) reply new → Shows g old new number (apart.stepped_back ∷ [])
   back_shows (replies.Refused refusal) step =
       subst (λ (s : State). Shows g old s number (apart.stepped_back ∷ [])) (sym step.1)
       (record { grammar = over; apt = apt; later = omega arith; follows = one apart.stepped_back (seen old number) (refl, not_back refusal step.0) })
@@ -270,22 +283,32 @@ module _ (g : GrammarParts) (old new : State) (number : ℕ) (over : old.pages.g
       let change = with_tokens (λ tokens. take (length tokens - 1) tokens) in
       let sessions = with_change old.sessions (record { 0 = number }) change in
       stays sessions (rise_changed number change (λ s. refl) 0 old.last old.sessions apt) step.1.after (apart.stepped_back ∷ [])
-      (one apart.stepped_back (record { words = old.pages.words; own = own_of sessions number }) (
+      (one apart.stepped_back (record { words = old.stored.words; own = own_of sessions number }) (
         refl,
         ap (option_map own) (changed_own old.sessions number change (λ s. refl))
             ∙ mapped_twice change own_back (λ s. refl) (session_of old.sessions (record { 0 = number })),
       ))
 
-  pub drop_shows : (reply : Reply) → StepsSession old (requests.Drop number) reply new → Shows g old new number (apart.dropped ∷ [])
+  pub drop_shows : (reply : Reply) → StepsSession old (requests.OnSession number on_session.Drop) reply new → Shows g old new number (apart.dropped ∷ [])
   drop_shows (replies.Refused refusal) step =
       subst (λ (s : State). Shows g old s number (apart.dropped ∷ [])) (sym step.1)
-      (record { grammar = over; apt = apt; later = omega arith; follows = one apart.dropped (seen old number) (refl, ap (option_map own) step.0.none) })
+      (record {
+        grammar = over;
+        apt = apt;
+        later = omega arith;
+        follows = one apart.dropped (seen old number) (
+          refl,
+          ap (option_map own)
+              (only_one (NamesNoSession old number) refusal step.0).0,
+        );
+      })
   drop_shows reply step =
       let sessions = without_session old.sessions (record { 0 = number }) in
       stays sessions (rise_filter (λ s. not (has_number (record { 0 = number }) s)) 0 old.last old.sessions apt) step.1.after (apart.dropped ∷ [])
-      (one apart.dropped (record { words = old.pages.words; own = own_of sessions number }) (refl, ap (option_map own) (without_own old.sessions number)))
+      (one apart.dropped (record { words = old.stored.words; own = own_of sessions number }) (refl, ap (option_map own) (without_own old.sessions number)))
 
-  pub commit_shows : (form : List ℕ) (status : Status) (text : List ℕ) → StepsSession old (requests.Commit number) (replies.Commit form status text) new
+  pub commit_shows : (form : List ℕ) (status : Status) (text : List ℕ)
+      → StepsSession old (requests.OnSession number on_session.Commit) (replies.Commit form status text) new
       → Shows g old new number (apart.committed ∷ [])
   commit_shows form status text step =
       let change = begun_again step.1.article in
@@ -295,7 +318,7 @@ module _ (g : GrammarParts) (old new : State) (number : ℕ) (over : old.pages.g
         grammar = over;
         apt = rise_changed number change (λ s. refl) 0 old.last old.sessions apt;
         later = omega arith;
-        follows = one apart.committed (record { words = old.pages.words; own = own_of sessions number }) (
+        follows = one apart.committed (record { words = old.stored.words; own = own_of sessions number }) (
           refl,
           ap (option_map own) (changed_own old.sessions number change (λ s. refl))
               ∙ mapped_twice change own_emptied (λ s. refl) (session_of old.sessions (record { 0 = number })),
@@ -312,28 +335,31 @@ module _ (g : GrammarParts) (old new : State) (number : ℕ) (over : old.pages.g
       → new ≡ record old { sessions = with_change old.sessions (record { 0 = n }) change } → Shows g old new number []
   other_changes n change keeps apart_is same =
       stays (with_change old.sessions (record { 0 = n }) change) (rise_changed n change keeps 0 old.last old.sessions apt) same []
-      (seen_is (record { words = old.pages.words; own = own_of (with_change old.sessions (record { 0 = n }) change) number }) (seen old number) refl
+      (seen_is (record { words = old.stored.words; own = own_of (with_change old.sessions (record { 0 = n }) change) number }) (seen old number) refl
       (other_own n change keeps apart_is))
 
-  pub put_other : (n : ℕ) (text : List ℕ) (reply : Reply) → (n == number) ≡ false → StepsSession old (requests.Put n text) reply new → Shows g old new number []
+  pub put_other : (n : ℕ) (text : List ℕ) (reply : Reply) → (n == number) ≡ false → StepsSession old (requests.OnSession n (on_session.Type text)) reply new
+      → Shows g old new number []
   put_other n text (replies.Refused refusal) apart_is step = shows_same g old new number over apt step.1
   put_other n text reply apart_is step =
-      other_changes n (with_tokens (λ tokens. tokens ++ typed old.pages.grammar.terminals tokens text ∷ [])) (λ s. refl) apart_is step.1.after
+      other_changes n (with_tokens (λ tokens. tokens ++ typed old.stored.grammar.terminals tokens text ∷ [])) (λ s. refl) apart_is step.1.after
 
-  pub back_other : (n : ℕ) (reply : Reply) → (n == number) ≡ false → StepsSession old (requests.Back n) reply new → Shows g old new number []
+  pub back_other : (n : ℕ) (reply : Reply) → (n == number) ≡ false → StepsSession old (requests.OnSession n on_session.Back) reply new
+      → Shows g old new number []
   back_other n (replies.Refused refusal) apart_is step = shows_same g old new number over apt step.1
   back_other n reply apart_is step = other_changes n (with_tokens (λ tokens. take (length tokens - 1) tokens)) (λ s. refl) apart_is step.1.after
 
-  pub drop_other : (n : ℕ) (reply : Reply) → (n == number) ≡ false → StepsSession old (requests.Drop n) reply new → Shows g old new number []
+  pub drop_other : (n : ℕ) (reply : Reply) → (n == number) ≡ false → StepsSession old (requests.OnSession n on_session.Drop) reply new
+      → Shows g old new number []
   drop_other n (replies.Refused refusal) apart_is step = shows_same g old new number over apt step.1
   drop_other n reply apart_is step =
       let sessions = without_session old.sessions (record { 0 = n }) in
       stays sessions (rise_filter (λ s. not (has_number (record { 0 = n }) s)) 0 old.last old.sessions apt) step.1.after []
-      (seen_is (record { words = old.pages.words; own = own_of sessions number }) (seen old number) refl
+      (seen_is (record { words = old.stored.words; own = own_of sessions number }) (seen old number) refl
       (ap (option_map own) (without_other old.sessions n number apart_is)))
 
   pub commit_other : (n : ℕ) (form : List ℕ) (status : Status) (text : List ℕ) → (n == number) ≡ false
-      → StepsSession old (requests.Commit n) (replies.Commit form status text) new → Shows g old new number []
+      → StepsSession old (requests.OnSession n on_session.Commit) (replies.Commit form status text) new → Shows g old new number []
   commit_other n form status text apart_is step =
       let change = begun_again step.1.article in
       let sessions = with_change old.sessions (record { 0 = n }) change in
@@ -342,24 +368,25 @@ module _ (g : GrammarParts) (old new : State) (number : ℕ) (over : old.pages.g
         grammar = over;
         apt = rise_changed n change (λ s. refl) 0 old.last old.sessions apt;
         later = omega arith;
-        follows = seen_is (record { words = old.pages.words; own = own_of sessions number }) (seen old number) refl (other_own n change (λ s. refl) apart_is);
+        follows = seen_is (record { words = old.stored.words; own = own_of sessions number }) (seen old number) refl (other_own n change (λ s. refl) apart_is);
       })
 
-  pub commit_refused : (n : ℕ) (reply : Reply) → tells_commit reply ≡ false → StepsSession old (requests.Commit n) reply new → Shows g old new number []
+  pub commit_refused : (n : ℕ) (reply : Reply) → tells_commit reply ≡ false → StepsSession old (requests.OnSession n on_session.Commit) reply new
+      → Shows g old new number []
   commit_refused n (replies.Refused refusal) not_told step = shows_same g old new number over apt step.1
   commit_refused n reply not_told step = absurd (false≢true (sym not_told ∙ ap tells_commit step.1.answer))
 
-  pub menu_shows : (n : ℕ) (reply : Reply) → StepsSession old (requests.Menu n) reply new → Shows g old new number []
+  pub menu_shows : (n : ℕ) (reply : Reply) → StepsSession old (requests.OnSession n on_session.Menu) reply new → Shows g old new number []
   menu_shows n (replies.Refused refusal) step = shows_same g old new number over apt step.1
   menu_shows n reply step = shows_same g old new number over apt step.1.after
 
   -- another revision changes no tokens, of whichever session
-  pub refresh_shows : (n : ℕ) (reply : Reply) → StepsSession old (requests.Refresh n) reply new → Shows g old new number []
+  pub refresh_shows : (n : ℕ) (reply : Reply) → StepsSession old (requests.OnSession n on_session.Refresh) reply new → Shows g old new number []
   refresh_shows n (replies.Refused refusal) step = shows_same g old new number over apt step.1
   refresh_shows n reply step =
       let change = with_revision step.1.article.revision in
       stays (with_change old.sessions (record { 0 = n }) change) (rise_changed n change (λ s. refl) 0 old.last old.sessions apt) step.1.after []
-      (seen_is (record { words = old.pages.words; own = own_of (with_change old.sessions (record { 0 = n }) change) number }) (seen old number) refl
+      (seen_is (record { words = old.stored.words; own = own_of (with_change old.sessions (record { 0 = n }) change) number }) (seen old number) refl
       (ap (option_map own) (find_changed (λ (s : PlainSession). s.number.0) n number change (λ s. refl) old.sessions)
       ∙ alike (session_of old.sessions (record { 0 = number }))))
     where
@@ -373,7 +400,7 @@ module _ (g : GrammarParts) (old new : State) (number : ℕ) (over : old.pages.g
       alike (Some s) = ap Some (same_own (s.number.0 == n) s)
 
   -- another session is opened
-  pub begin_other : (form : List ℕ) (reply : Reply) → (old.last + 1 == number) ≡ false → StepsSession old (requests.Begin form) reply new
+  pub begin_other : (form : List ℕ) (reply : Reply) → (old.last + 1 == number) ≡ false → StepsSession old (requests.Open form) reply new
       → Shows g old new number []
   begin_other form (replies.Refused refusal) apart_is step = shows_same g old new number over apt step.1
   begin_other form reply apart_is step =
@@ -383,12 +410,12 @@ module _ (g : GrammarParts) (old new : State) (number : ℕ) (over : old.pages.g
         grammar = over;
         apt = rise_append 0 old.last old.sessions session refl apt;
         later = omega arith;
-        follows = seen_is (record { words = old.pages.words; own = own_of (old.sessions ++ session ∷ []) number }) (seen old number) refl
+        follows = seen_is (record { words = old.stored.words; own = own_of (old.sessions ++ session ∷ []) number }) (seen old number) refl
             (ap (option_map own) (opened_other old.sessions session number apart_is));
       })
 
   -- the session itself is opened
-  pub begin_shows : (form : List ℕ) → session_numbered old number ≡ None → StepsSession old (requests.Begin form) (replies.Begin number) new
+  pub begin_shows : (form : List ℕ) → session_numbered old number ≡ None → StepsSession old (requests.Open form) (replies.Open number) new
       → Shows g old new number (apart.opened form ∷ []) × (number ≤ new.last)
   begin_shows form none step =
       let session = new_session (record { 0 = old.last + 1 }) step.1.word step.1.article.revision in
@@ -399,7 +426,7 @@ module _ (g : GrammarParts) (old new : State) (number : ℕ) (over : old.pages.g
           grammar = over;
           apt = rise_append 0 old.last old.sessions session refl apt;
           later = omega arith;
-          follows = one (apart.opened form) (record { words = old.pages.words; own = own_of (old.sessions ++ session ∷ []) number })
+          follows = one (apart.opened form) (record { words = old.stored.words; own = own_of (old.sessions ++ session ∷ []) number })
               (refl, (step.1.word, step.1.named, ap (option_map own) (opened_own old.sessions session number none same)));
         },
         omega (arith, is_next),

@@ -14,18 +14,21 @@ use Rattle.sessions.specs.Sessions.{PlainSession, new_session, has_number, sessi
 use Rattle.wiki_talk.specs.declared.replies.Reply.{Reply}
 use Rattle.wiki_talk.specs.declared.requests.Request.{Request}
 use Rattle.wiki_talk.specs.declared.requests.Request.TheVariants as requests
+use Rattle.wiki_talk.specs.declared.requests.WikiRequest.TheVariants as on_wiki
+use Rattle.wiki_talk.specs.declared.requests.WordRequest.TheVariants as on_word
+use Rattle.wiki_talk.specs.declared.requests.ArticleRequest.TheVariants as on_article
+use Rattle.wiki_talk.specs.declared.requests.SessionRequest.TheVariants as on_session
 use Rattle.wiki_talk.specs.declared.limits.Limit.TheVariants as limits
 use Rattle.wiki_talk.specs.Turns.{Exchange, answered, no_request, Turns}
-use Rattle.wiki_parts.specs.State as parts
-use Rattle.wiki_parts.specs.Words.{forms_given, full_at, word_refusal}
-use Rattle.wiki_parts.specs.Faults.{IsAbsent}
-use Rattle.wiki_parts.specs.Refusing.{FirstOf, NamesNoWord, IsBadReword, BreaksSentence, reword_cause}
-use Rattle.wiki_store.specs.Step as store
-use Rattle.wiki_store.specs.Step.{asks_store}
+use Rattle.plain_wiki.specs.Stored.{Stored}
+use Rattle.plain_wiki.specs.Words.{forms_given, full_at, word_refusal}
+use Rattle.plain_wiki.specs.Causes.{IsAbsent, FirstOf, NamesNoWord, IsBadReword, BreaksSentence, reword_cause, session_numbered}
+use Rattle.wiki_core.proofs.StoredSteps as store
+use Rattle.wiki_core.proofs.StoredSteps.{asks_store}
 use Rattle.derivations.proofs.GrowLemmas.{Each}
-use Rattle.wiki_core.specs.State.{State, first_state}
-use Rattle.wiki_core.specs.Causes.{session_numbered}
-use Rattle.wiki_core.specs.Step.{Step, StepsPages, StepsSession, CarriesSessions, EndOnArticle, IsFree, begun_again, numbered}
+use Rattle.plain_wiki.specs.State.{State, first_state}
+use Rattle.wiki_core.proofs.PartedSteps.{Step, StepsPages, StepsSession, CarriesSessions, IsFree, parted_turns}
+use Rattle.plain_wiki.specs.Step.{EndOnArticle, begun_again, numbered}
 use Rattle.wiki_core.specs.Journaled.{changes_of, asked_of, tells_spent, is_spent_in, SpendsNone, GivesUtf8, NoneIsRaised, StandAlike, StandsAgain}
 use Rattle.wiki_core.proofs.SeenLemmas.{RiseTo}
 use Rattle.wiki_core.proofs.RunLemmas.{IsApt}
@@ -46,12 +49,12 @@ none_told None never = refl
 none_told (Some x) never = absurd (never x refl)
 
 -- words that stay as they are
-same_words : (old new : parts.State) → AreReady old.grammar old.words → new.grammar ≡ old.grammar → new.words ≡ old.words → AreReady new.grammar new.words
+same_words : (old new : Stored) → AreReady old.grammar old.words → new.grammar ≡ old.grammar → new.words ≡ old.words → AreReady new.grammar new.words
 same_words old new ready grammar words =
     subst (λ (g : GrammarParts). AreReady g new.words) (sym grammar) (subst (λ (w : Listed). AreReady old.grammar w) (sym words) ready)
 
 -- words that are made of those
-other_words : (old new : parts.State) (words : Listed) → AreReady old.grammar old.words → new.grammar ≡ old.grammar → new.words ≡ words
+other_words : (old new : Stored) (words : Listed) → AreReady old.grammar old.words → new.grammar ≡ old.grammar → new.words ≡ words
     → words.terminals ≡ old.words.terminals → AreReadable old.words.terminals words.live → AreReady new.grammar new.words
 other_words old new words ready grammar is terminals readable =
     subst (λ (g : GrammarParts). AreReady g new.words) (sym grammar) (subst (λ (w : Listed). AreReady old.grammar w) (sym is) (record {
@@ -61,53 +64,54 @@ other_words old new words ready grammar is terminals readable =
       readable = subst (λ (ts : List (List ℕ)). AreReadable ts words.live) (sym terminals) readable;
     }))
 
-pub not_bad_reword : (old : parts.State) (text : List ℕ) (texts : List (List ℕ)) → IsAbsent (FirstOf (NamesNoWord old text ∷ IsBadReword old text texts
+pub not_bad_reword : (old : Stored) (text : List ℕ) (texts : List (List ℕ)) → IsAbsent (FirstOf (NamesNoWord old text ∷ IsBadReword old text texts
     ∷ BreaksSentence old text texts ∷ [])) → IsAbsent (IsBadReword old text texts)
 not_bad_reword old text texts free refusal bad = free refusal (inr (λ other h. free other (inl h), inl bad))
 
-does_ready : (old : parts.State) (request : Request) (reply : Reply) (new : parts.State) → AreReady old.grammar old.words → GivesUtf8 request
+does_ready : (old : Stored) (request : Request) (reply : Reply) (new : Stored) → AreReady old.grammar old.words → GivesUtf8 request
     → store.IsFree old request → store.Does old request reply new → AreReady new.grammar new.words
-does_ready old (requests.Word kind texts) reply new ready utf8 free x =
-    other_words old new (with_word old.words (forms_given kind texts)) ready (ap (λ (p : parts.State). p.grammar) x.after)
-    (ap (λ (p : parts.State). p.words) x.after) refl
-    (readable_word old.words kind texts utf8 (none_told (word_refusal old.words kind texts) free) ready.readable)
-does_ready old (requests.Reword text texts) reply new ready utf8 free x =
-    other_words old new (with_forms old.words x.word (forms_given x.forms.kind texts)) ready (ap (λ (p : parts.State). p.grammar) x.after)
-    (ap (λ (p : parts.State). p.words) x.after) refl
+does_ready old (requests.OnWiki (on_wiki.Word kind texts)) reply new ready utf8 free x =
+    other_words old new (with_word old.words (forms_given kind texts)) ready (ap (λ (p : Stored). p.grammar) x.after)
+    (ap (λ (p : Stored). p.words) x.after) refl
+    (readable_word old.words kind texts utf8 (none_told (word_refusal old.words kind texts)
+    (λ refusal told. free refusal (inl told))) ready.readable)
+does_ready old (requests.OnWord text (on_word.Reword texts)) reply new ready utf8 free x =
+    other_words old new (with_forms old.words x.word (forms_given x.forms.kind texts)) ready (ap (λ (p : Stored). p.grammar) x.after)
+    (ap (λ (p : Stored). p.words) x.after) refl
     (readable_reword old.words x.word x.forms texts x.of_word utf8
     (none_told (reword_cause old.words x.word x.forms.kind texts) (λ refusal told. not_bad_reword old text texts free refusal
     (record { word = x.word; named = x.named; old = x.forms; of_word = x.of_word; told = told }))) ready.readable)
-does_ready old (requests.Unword text) reply new ready utf8 free x =
-    other_words old new (without_word old.words x.word) ready (ap (λ (p : parts.State). p.grammar) x.after) (ap (λ (p : parts.State). p.words) x.after) refl
+does_ready old (requests.OnWord text on_word.Unword) reply new ready utf8 free x =
+    other_words old new (without_word old.words x.word) ready (ap (λ (p : Stored). p.grammar) x.after) (ap (λ (p : Stored). p.words) x.after) refl
     (readable_without old.words.terminals old.words.live x.word ready.readable)
-does_ready old (requests.Find text) reply new ready utf8 free x =
-    same_words old new ready (ap (λ (p : parts.State). p.grammar) x.after) (ap (λ (p : parts.State). p.words) x.after)
-does_ready old requests.Words reply new ready utf8 free x =
-    same_words old new ready (ap (λ (p : parts.State). p.grammar) x.after) (ap (λ (p : parts.State). p.words) x.after)
-does_ready old (requests.Parse text) reply new ready utf8 free x =
-    same_words old new ready (ap (λ (p : parts.State). p.grammar) x.after) (ap (λ (p : parts.State). p.words) x.after)
-does_ready old (requests.Add article given text) reply new ready utf8 free x =
-    same_words old new ready (ap (λ (p : parts.State). p.grammar) x.after) (ap (λ (p : parts.State). p.words) x.after)
-does_ready old (requests.Edit article place text) reply new ready utf8 free x =
-    same_words old new ready (ap (λ (p : parts.State). p.grammar) x.after) (ap (λ (p : parts.State). p.words) x.after)
-does_ready old (requests.Remove article place) reply new ready utf8 free x =
-    same_words old new ready (ap (λ (p : parts.State). p.grammar) x.after) (ap (λ (p : parts.State). p.words) x.after)
-does_ready old (requests.Retract article place) reply new ready utf8 free x =
-    same_words old new ready (ap (λ (p : parts.State). p.grammar) x.after) (ap (λ (p : parts.State). p.words) x.after)
-does_ready old (requests.Reassert article place) reply new ready utf8 free x =
-    same_words old new ready (ap (λ (p : parts.State). p.grammar) x.after) (ap (λ (p : parts.State). p.words) x.after)
-does_ready old (requests.Read article) reply new ready utf8 free x =
-    same_words old new ready (ap (λ (p : parts.State). p.grammar) x.after) (ap (λ (p : parts.State). p.words) x.after)
-does_ready old (requests.Axioms article place) reply new ready utf8 free x =
-    same_words old new ready (ap (λ (p : parts.State). p.grammar) x.after) (ap (λ (p : parts.State). p.words) x.after)
+does_ready old (requests.OnWord text on_word.Find) reply new ready utf8 free x =
+    same_words old new ready (ap (λ (p : Stored). p.grammar) x.after) (ap (λ (p : Stored). p.words) x.after)
+does_ready old (requests.OnWiki on_wiki.Words) reply new ready utf8 free x =
+    same_words old new ready (ap (λ (p : Stored). p.grammar) x.after) (ap (λ (p : Stored). p.words) x.after)
+does_ready old (requests.OnWiki (on_wiki.Parse text)) reply new ready utf8 free x =
+    same_words old new ready (ap (λ (p : Stored). p.grammar) x.after) (ap (λ (p : Stored). p.words) x.after)
+does_ready old (requests.OnArticle article (on_article.Add given text)) reply new ready utf8 free x =
+    same_words old new ready (ap (λ (p : Stored). p.grammar) x.after) (ap (λ (p : Stored). p.words) x.after)
+does_ready old (requests.OnArticle article (on_article.Edit place text)) reply new ready utf8 free x =
+    same_words old new ready (ap (λ (p : Stored). p.grammar) x.after) (ap (λ (p : Stored). p.words) x.after)
+does_ready old (requests.OnArticle article (on_article.Remove place)) reply new ready utf8 free x =
+    same_words old new ready (ap (λ (p : Stored). p.grammar) x.after) (ap (λ (p : Stored). p.words) x.after)
+does_ready old (requests.OnArticle article (on_article.Retract place)) reply new ready utf8 free x =
+    same_words old new ready (ap (λ (p : Stored). p.grammar) x.after) (ap (λ (p : Stored). p.words) x.after)
+does_ready old (requests.OnArticle article (on_article.Reassert place)) reply new ready utf8 free x =
+    same_words old new ready (ap (λ (p : Stored). p.grammar) x.after) (ap (λ (p : Stored). p.words) x.after)
+does_ready old (requests.OnArticle article on_article.Read) reply new ready utf8 free x =
+    same_words old new ready (ap (λ (p : Stored). p.grammar) x.after) (ap (λ (p : Stored). p.words) x.after)
+does_ready old (requests.OnArticle article (on_article.Axioms place)) reply new ready utf8 free x =
+    same_words old new ready (ap (λ (p : Stored). p.grammar) x.after) (ap (λ (p : Stored). p.words) x.after)
 does_ready old request reply new ready utf8 free x = absurd x
 
-pages_ready : (old : parts.State) (request : Request) (reply : Reply) (new : parts.State) → AreReady old.grammar old.words → GivesUtf8 request
+pages_ready : (old : Stored) (request : Request) (reply : Reply) (new : Stored) → AreReady old.grammar old.words → GivesUtf8 request
     → store.Step old request reply new → AreReady new.grammar new.words
 pages_ready old request reply new ready utf8 step = by (one.outcome old request reply new step)
   where
     by : one.IsRefused old request reply new ⊎ one.IsDone old request reply new → AreReady new.grammar new.words
-    by (inl refused) = subst (λ (p : parts.State). AreReady p.grammar p.words) (sym refused.3) ready
+    by (inl refused) = subst (λ (p : Stored). AreReady p.grammar p.words) (sym refused.3) ready
     by (inr done) = does_ready old request reply new ready utf8 done.0 done.1
 
 -- ---- sessions stay short
@@ -198,7 +202,7 @@ take_less xs n = let same = length-take n xs in omega (arith, same)
 
 -- What a wiki shows is read as it was; its sessions' numbers rise, and each session has at most 40 tokens.
 pub record IsReady (state : State) : Type 0 where
-  pub pages : AreReady state.pages.grammar state.pages.words
+  pub stored : AreReady state.stored.grammar state.stored.words
   pub apt : IsApt state
   pub short : AreShortSessions state.sessions
 
@@ -208,137 +212,144 @@ module _ (old new : State) (reply : Reply) (ready : IsReady old) where
   kept_short same = subst AreShortSessions (sym same) ready.short
 
   -- sessions over requests on words and sentences
-  carried_short : (request : Request) → store.Step old.pages request reply new.pages → CarriesSessions old request reply new → AreShortSessions new.sessions
-  carried_short (requests.Word kind forms) step carries = by (one.outcome old.pages (requests.Word kind forms) reply new.pages step)
+  carried_short : (request : Request) → store.Step old.stored request reply new.stored → CarriesSessions old request reply new → AreShortSessions new.sessions
+  carried_short (requests.OnWiki (on_wiki.Word kind forms)) step carries =
+      by (one.outcome old.stored (requests.OnWiki (on_wiki.Word kind forms)) reply new.stored step)
     where
-      by : one.IsRefused old.pages (requests.Word kind forms) reply new.pages ⊎ one.IsDone old.pages (requests.Word kind forms) reply new.pages
+      by : one.IsRefused old.stored (requests.OnWiki (on_wiki.Word kind forms)) reply new.stored
+          ⊎ one.IsDone old.stored (requests.OnWiki (on_wiki.Word kind forms)) reply new.stored
           → AreShortSessions new.sessions
       by (inl refused) = kept_short
-          (subst (λ (r : Reply). CarriesSessions old (requests.Word kind forms) r new) refused.1 carries)
-      by (inr done) = short_rebased new.pages.grammar new.pages.words old.sessions new.sessions
-          (subst (λ (r : Reply). CarriesSessions old (requests.Word kind forms) r new) done.1.answer carries) ready.short
-  carried_short (requests.Reword form forms) step carries = by (one.outcome old.pages (requests.Reword form forms) reply new.pages step)
+          (subst (λ (r : Reply). CarriesSessions old (requests.OnWiki (on_wiki.Word kind forms)) r new) refused.1 carries)
+      by (inr done) = short_rebased new.stored.grammar new.stored.words old.sessions new.sessions
+          (subst (λ (r : Reply). CarriesSessions old (requests.OnWiki (on_wiki.Word kind forms)) r new) done.1.answer carries) ready.short
+  carried_short (requests.OnWord form (on_word.Reword forms)) step carries =
+      by (one.outcome old.stored (requests.OnWord form (on_word.Reword forms)) reply new.stored step)
     where
-      by : one.IsRefused old.pages (requests.Reword form forms) reply new.pages ⊎ one.IsDone old.pages (requests.Reword form forms) reply new.pages
+      by : one.IsRefused old.stored (requests.OnWord form (on_word.Reword forms)) reply new.stored
+          ⊎ one.IsDone old.stored (requests.OnWord form (on_word.Reword forms)) reply new.stored
           → AreShortSessions new.sessions
       by (inl refused) = kept_short
-          (subst (λ (r : Reply). CarriesSessions old (requests.Reword form forms) r new) refused.1 carries)
-      by (inr done) = short_rebased new.pages.grammar new.pages.words old.sessions new.sessions
-          (subst (λ (r : Reply). CarriesSessions old (requests.Reword form forms) r new) done.1.answer carries) ready.short
-  carried_short (requests.Unword form) step carries = by (one.outcome old.pages (requests.Unword form) reply new.pages step)
+          (subst (λ (r : Reply). CarriesSessions old (requests.OnWord form (on_word.Reword forms)) r new) refused.1 carries)
+      by (inr done) = short_rebased new.stored.grammar new.stored.words old.sessions new.sessions
+          (subst (λ (r : Reply). CarriesSessions old (requests.OnWord form (on_word.Reword forms)) r new) done.1.answer carries) ready.short
+  carried_short (requests.OnWord form on_word.Unword) step carries = by (one.outcome old.stored (requests.OnWord form on_word.Unword) reply new.stored step)
     where
-      by : one.IsRefused old.pages (requests.Unword form) reply new.pages ⊎ one.IsDone old.pages (requests.Unword form) reply new.pages
+      by : one.IsRefused old.stored (requests.OnWord form on_word.Unword) reply new.stored
+          ⊎ one.IsDone old.stored (requests.OnWord form on_word.Unword) reply new.stored
           → AreShortSessions new.sessions
       by (inl refused) = kept_short
-          (subst (λ (r : Reply). CarriesSessions old (requests.Unword form) r new) refused.1 carries)
+          (subst (λ (r : Reply). CarriesSessions old (requests.OnWord form on_word.Unword) r new) refused.1 carries)
       by (inr done) =
-          let ended : EndOnArticle old form new = subst (λ (r : Reply). CarriesSessions old (requests.Unword form) r new) done.1.answer carries in
+          let ended : EndOnArticle old form new =
+          subst (λ (r : Reply). CarriesSessions old (requests.OnWord form on_word.Unword) r new) done.1.answer carries in
           subst AreShortSessions (sym ended.ended)
           (short_filter (λ s. not (is_on ended.word s)) ended.rebased
-          (short_rebased new.pages.grammar new.pages.words old.sessions ended.rebased ended.rebases ready.short))
-  carried_short (requests.Find word) step carries = kept_short carries
-  carried_short requests.Words step carries = kept_short carries
-  carried_short (requests.Parse text) step carries = kept_short carries
-  carried_short (requests.Add article given text) step carries = kept_short carries
-  carried_short (requests.Edit article place text) step carries = kept_short carries
-  carried_short (requests.Remove article place) step carries = kept_short carries
-  carried_short (requests.Retract article place) step carries = kept_short carries
-  carried_short (requests.Reassert article place) step carries = kept_short carries
-  carried_short (requests.Read article) step carries = kept_short carries
-  carried_short (requests.Axioms article place) step carries = kept_short carries
-  carried_short (requests.Begin article) step carries = kept_short carries
-  carried_short (requests.Put session text) step carries = kept_short carries
-  carried_short (requests.Back session) step carries = kept_short carries
-  carried_short (requests.Menu session) step carries = kept_short carries
-  carried_short (requests.Commit session) step carries = kept_short carries
-  carried_short (requests.Refresh session) step carries = kept_short carries
-  carried_short (requests.Drop session) step carries = kept_short carries
+          (short_rebased new.stored.grammar new.stored.words old.sessions ended.rebased ended.rebases ready.short))
+  carried_short (requests.OnWord word on_word.Find) step carries = kept_short carries
+  carried_short (requests.OnWiki on_wiki.Words) step carries = kept_short carries
+  carried_short (requests.OnWiki (on_wiki.Parse text)) step carries = kept_short carries
+  carried_short (requests.OnArticle article (on_article.Add given text)) step carries = kept_short carries
+  carried_short (requests.OnArticle article (on_article.Edit place text)) step carries = kept_short carries
+  carried_short (requests.OnArticle article (on_article.Remove place)) step carries = kept_short carries
+  carried_short (requests.OnArticle article (on_article.Retract place)) step carries = kept_short carries
+  carried_short (requests.OnArticle article (on_article.Reassert place)) step carries = kept_short carries
+  carried_short (requests.OnArticle article on_article.Read) step carries = kept_short carries
+  carried_short (requests.OnArticle article (on_article.Axioms place)) step carries = kept_short carries
+  carried_short (requests.Open article) step carries = kept_short carries
+  carried_short (requests.OnSession session (on_session.Type text)) step carries = kept_short carries
+  carried_short (requests.OnSession session on_session.Back) step carries = kept_short carries
+  carried_short (requests.OnSession session on_session.Menu) step carries = kept_short carries
+  carried_short (requests.OnSession session on_session.Commit) step carries = kept_short carries
+  carried_short (requests.OnSession session on_session.Refresh) step carries = kept_short carries
+  carried_short (requests.OnSession session on_session.Drop) step carries = kept_short carries
 
   -- words and sessions after a request on a session
-  same_pages : new.pages ≡ old.pages → AreReady new.pages.grammar new.pages.words
-  same_pages same = subst (λ (p : parts.State). AreReady p.grammar p.words) (sym same) ready.pages
+  same_pages : new.stored ≡ old.stored → AreReady new.stored.grammar new.stored.words
+  same_pages same = subst (λ (p : Stored). AreReady p.grammar p.words) (sym same) ready.stored
 
-  session_done : (request : Request) → whole.IsDone old request reply new → AreReady new.pages.grammar new.pages.words × AreShortSessions new.sessions
-  session_done (requests.Begin article) (free, x) = (
-    same_pages (ap (λ (s : State). s.pages) x.after),
+  session_done : (request : Request) → whole.IsDone old request reply new → AreReady new.stored.grammar new.stored.words × AreShortSessions new.sessions
+  session_done (requests.Open article) (free, x) = (
+    same_pages (ap (λ (s : State). s.stored) x.after),
     subst AreShortSessions (sym (ap (λ (s : State). s.sessions) x.after))
         (short_append old.sessions (new_session (numbered (old.last + 1)) x.word x.article.revision) ready.short (omega arith)),
   )
-  session_done (requests.Put session text) (free, x) = (
-    same_pages (ap (λ (s : State). s.pages) x.after),
+  session_done (requests.OnSession session (on_session.Type text)) (free, x) = (
+    same_pages (ap (λ (s : State). s.stored) x.after),
     subst AreShortSessions (sym (ap (λ (s : State). s.sessions) x.after))
-        (short_changed old.sessions session (with_tokens (λ tokens. tokens ++ typed old.pages.grammar.terminals tokens text ∷ [])) ready.short
-        (typed_short old.sessions session (λ s. typed old.pages.grammar.terminals s.tokens text) x.session
+        (short_changed old.sessions session (with_tokens (λ tokens. tokens ++ typed old.stored.grammar.terminals tokens text ∷ [])) ready.short
+        (typed_short old.sessions session (λ s. typed old.stored.grammar.terminals s.tokens text) x.session
         (not_full x.session x.named free) (only 0 old.last session old.sessions ready.apt x.session x.named))),
   )
     where
-      not_full : (found : PlainSession) → session_numbered old session ≡ Some found → IsFree old (requests.Put session text) → length found.tokens < 40
+      not_full : (found : PlainSession) → session_numbered old session ≡ Some found → IsFree old (requests.OnSession session (on_session.Type text))
+          → length found.tokens < 40
       not_full found named free = by (cases_lt (length found.tokens) 40)
         where
           by : (length found.tokens < 40) ⊎ (40 ≤ length found.tokens) → length found.tokens < 40
           by (inl less) = less
           by (inr full) = absurd (free (full_at limits.Tokens) (inr (
-            λ other gone. none-some found (sym gone.none ∙ named),
-            inl (record { session = found; named = named; full = full; told = refl }),
+            λ other gone. none-some found (sym gone.0 ∙ named),
+            inl (found, named, (full, refl)),
           )))
-  session_done (requests.Back session) (free, x) = (
-    same_pages (ap (λ (s : State). s.pages) x.after),
+  session_done (requests.OnSession session on_session.Back) (free, x) = (
+    same_pages (ap (λ (s : State). s.stored) x.after),
     subst AreShortSessions (sym (ap (λ (s : State). s.sessions) x.after))
         (short_changed old.sessions session (with_tokens (λ tokens. take (length tokens - 1) tokens)) ready.short
         (no_longer old.sessions session (with_tokens (λ tokens. take (length tokens - 1) tokens)) (λ s. take_less s.tokens (length s.tokens - 1)) ready.short)),
   )
-  session_done (requests.Menu session) (free, x) = (
-    same_pages (ap (λ (s : State). s.pages) x.after),
+  session_done (requests.OnSession session on_session.Menu) (free, x) = (
+    same_pages (ap (λ (s : State). s.stored) x.after),
     kept_short (ap (λ (s : State). s.sessions) x.after),
   )
-  session_done (requests.Commit session) (free, x) = (
-    same_words old.pages new.pages ready.pages (ap (λ (s : State). s.pages.grammar) x.after) (ap (λ (s : State). s.pages.words) x.after),
+  session_done (requests.OnSession session on_session.Commit) (free, x) = (
+    same_words old.stored new.stored ready.stored (ap (λ (s : State). s.stored.grammar) x.after) (ap (λ (s : State). s.stored.words) x.after),
     subst AreShortSessions (sym (ap (λ (s : State). s.sessions) x.after))
         (short_changed old.sessions session (begun_again x.article) ready.short
         (no_longer old.sessions session (begun_again x.article) (λ s. omega arith) ready.short)),
   )
-  session_done (requests.Refresh session) (free, x) = (
-    same_pages (ap (λ (s : State). s.pages) x.after),
+  session_done (requests.OnSession session on_session.Refresh) (free, x) = (
+    same_pages (ap (λ (s : State). s.stored) x.after),
     subst AreShortSessions (sym (ap (λ (s : State). s.sessions) x.after))
         (short_changed old.sessions session (with_revision x.article.revision) ready.short
         (no_longer old.sessions session (with_revision x.article.revision) (λ s. omega arith) ready.short)),
   )
-  session_done (requests.Drop session) (free, x) = (
-    same_pages (ap (λ (s : State). s.pages) x.after),
+  session_done (requests.OnSession session on_session.Drop) (free, x) = (
+    same_pages (ap (λ (s : State). s.stored) x.after),
     subst AreShortSessions (sym (ap (λ (s : State). s.sessions) x.after))
         (short_filter (λ s. not (has_number (record { 0 = session }) s)) old.sessions ready.short),
   )
   session_done request (free, x) = absurd x
 
-  session_ready : (request : Request) → StepsSession old request reply new → AreReady new.pages.grammar new.pages.words × AreShortSessions new.sessions
+  session_ready : (request : Request) → StepsSession old request reply new → AreReady new.stored.grammar new.stored.words × AreShortSessions new.sessions
   session_ready request step = by (whole.outcome old request reply new step)
     where
       by : whole.IsRefused old request reply new ⊎ whole.IsDone old request reply new
-          → AreReady new.pages.grammar new.pages.words × AreShortSessions new.sessions
-      by (inl refused) = (same_pages (ap (λ (s : State). s.pages) refused.3), kept_short (ap (λ (s : State). s.sessions) refused.3))
+          → AreReady new.stored.grammar new.stored.words × AreShortSessions new.sessions
+      by (inl refused) = (same_pages (ap (λ (s : State). s.stored) refused.3), kept_short (ap (λ (s : State). s.sessions) refused.3))
       by (inr done) = session_done request done
 
   stored_ready : (request : Request) → GivesUtf8 request → StepsPages old request reply new
-      → AreReady new.pages.grammar new.pages.words × AreShortSessions new.sessions
+      → AreReady new.stored.grammar new.stored.words × AreShortSessions new.sessions
   stored_ready request utf8 step =
-      (pages_ready old.pages request reply new.pages ready.pages utf8 step.pages, carried_short request step.pages step.sessions)
+      (pages_ready old.stored request reply new.stored ready.stored utf8 step.stored, carried_short request step.stored step.sessions)
 
   parts_ready : (request : Request) → GivesUtf8 request → Step old request reply new
-      → AreReady new.pages.grammar new.pages.words × AreShortSessions new.sessions
-  parts_ready (requests.Begin article) utf8 step = session_ready (requests.Begin article) step
-  parts_ready (requests.Put session text) utf8 step = session_ready (requests.Put session text) step
-  parts_ready (requests.Back session) utf8 step = session_ready (requests.Back session) step
-  parts_ready (requests.Menu session) utf8 step = session_ready (requests.Menu session) step
-  parts_ready (requests.Commit session) utf8 step = session_ready (requests.Commit session) step
-  parts_ready (requests.Refresh session) utf8 step = session_ready (requests.Refresh session) step
-  parts_ready (requests.Drop session) utf8 step = session_ready (requests.Drop session) step
+      → AreReady new.stored.grammar new.stored.words × AreShortSessions new.sessions
+  parts_ready (requests.Open article) utf8 step = session_ready (requests.Open article) step
+  parts_ready (requests.OnSession session (on_session.Type text)) utf8 step = session_ready (requests.OnSession session (on_session.Type text)) step
+  parts_ready (requests.OnSession session on_session.Back) utf8 step = session_ready (requests.OnSession session on_session.Back) step
+  parts_ready (requests.OnSession session on_session.Menu) utf8 step = session_ready (requests.OnSession session on_session.Menu) step
+  parts_ready (requests.OnSession session on_session.Commit) utf8 step = session_ready (requests.OnSession session on_session.Commit) step
+  parts_ready (requests.OnSession session on_session.Refresh) utf8 step = session_ready (requests.OnSession session on_session.Refresh) step
+  parts_ready (requests.OnSession session on_session.Drop) utf8 step = session_ready (requests.OnSession session on_session.Drop) step
   parts_ready request utf8 step = stored_ready request utf8 step
 
   -- a wiki stays ready
   pub stays_ready : (request : Request) → GivesUtf8 request → Step old request reply new → IsReady new
   stays_ready request utf8 step =
       let both = parts_ready request utf8 step in
-      record { pages = both.0; apt = (open_step old.pages.grammar old new 0 refl ready.apt (omega arith) request reply step).apt; short = both.1 }
+      record { stored = both.0; apt = (open_step old.stored.grammar old new 0 refl ready.apt (omega arith) request reply step).apt; short = both.1 }
 
 -- ---- runs
 
@@ -371,29 +382,29 @@ asks_again (request ∷ asked) more first last budget its_last (reply, next, ste
     (subst (λ (s : State). Asks s (asked ++ more) its_last) (step_one first budget request reply its_reply next its_next step its_step kept its_kept) its_rest)
 
 -- the change of a step, asked anywhere over the same words and sentences
-made_again : (old new : parts.State) (change : Request) (said : Reply) → store.Step old change said new → tells_spent said ≡ false → asks_store change ≡ true
-    → (other its_new : State) (its_reply : Reply) → StandAlike old other.pages → Step other change its_reply its_new → tells_spent its_reply ≡ false
-    → StandAlike new its_new.pages
+made_again : (old new : Stored) (change : Request) (said : Reply) → store.Step old change said new → tells_spent said ≡ false → asks_store change ≡ true
+    → (other its_new : State) (its_reply : Reply) → StandAlike old other.stored → Step other change its_reply its_new → tells_spent its_reply ≡ false
+    → StandAlike new its_new.stored
 made_again old new change said step kept asks other its_new its_reply same its_step its_kept =
-    let pages : StepsPages other change its_reply its_new =
+    let stored : StepsPages other change its_reply its_new =
     subst (λ (b : Bool). MatchBool b (StepsPages other change its_reply its_new) (StepsSession other change its_reply its_new)) asks its_step in
-    let stored : store.Step (at_budget old other.pages.budget) change its_reply its_new.pages =
-    subst (λ (p : parts.State). store.Step p change its_reply its_new.pages) same pages.pages in
-    let is : its_new.pages ≡ at_budget new other.pages.budget =
-    store_one old other.pages.budget change said its_reply new its_new.pages step stored kept its_kept in
-    is ∙ sym (ap (λ (n : ℕ). at_budget new n) (ap (λ (p : parts.State). p.budget) is))
+    let again_stored : store.Step (at_budget old other.stored.budget) change its_reply its_new.stored =
+    subst (λ (p : Stored). store.Step p change its_reply its_new.stored) same stored.stored in
+    let is : its_new.stored ≡ at_budget new other.stored.budget =
+    store_one old other.stored.budget change said its_reply new its_new.stored step again_stored kept its_kept in
+    is ∙ sym (ap (λ (n : ℕ). at_budget new n) (ap (λ (p : Stored). p.budget) is))
 
 -- the changes of a run, asked over the same words and sentences
 made_run : (exchanges : List (Exchange Request Reply)) (first last other its_last : State) → IsReady first → Turns Step first exchanges last
-    → All GivesUtf8 (asked_of exchanges) → SpendsNone exchanges → StandAlike first.pages other.pages → Asks other (changes_of exchanges) its_last
-    → StandAlike last.pages its_last.pages
+    → All GivesUtf8 (asked_of exchanges) → SpendsNone exchanges → StandAlike first.stored other.stored → Asks other (changes_of exchanges) its_last
+    → StandAlike last.stored its_last.stored
 made_run [] first last other its_last ready turns utf8 kept same asks =
-    subst (λ (s : State). StandAlike s.pages its_last.pages) (sym turns) (subst (λ (s : State). StandAlike first.pages s.pages) (sym asks) same)
+    subst (λ (s : State). StandAlike s.stored its_last.stored) (sym turns) (subst (λ (s : State). StandAlike first.stored s.stored) (sym asks) same)
 made_run (no_request ∷ exchanges) first last other its_last ready (next, is, turns) utf8 kept same asks =
     made_run exchanges next last other its_last (subst IsReady (sym is) ready) turns utf8 kept
-    (subst (λ (s : State). StandAlike s.pages other.pages) (sym is) same) asks
+    (subst (λ (s : State). StandAlike s.stored other.stored) (sym is) same) asks
 made_run (answered request reply ∷ exchanges) first last other its_last ready (next, step, turns) utf8 kept same asks =
-    by (step_made first request reply next ready.pages ready.short step)
+    by (step_made first request reply next ready.stored ready.short step)
     (λ it alike asked. made_run exchanges next last it its_last later turns later_utf8 both.1 alike asked)
   where
     both : (tells_spent reply ≡ false) × (list_any is_spent_in exchanges ≡ false)
@@ -405,18 +416,18 @@ made_run (answered request reply ∷ exchanges) first last other its_last ready 
     later_utf8 : All GivesUtf8 (asked_of exchanges)
     later_utf8 = All-tail GivesUtf8 request (asked_of exchanges) utf8
 
-    by : IsMade first.pages request reply next.pages
-        → ((it : State) → StandAlike next.pages it.pages → Asks it (changes_of exchanges) its_last → StandAlike last.pages its_last.pages)
-        → StandAlike last.pages its_last.pages
+    by : IsMade first.stored request reply next.stored
+        → ((it : State) → StandAlike next.stored it.stored → Asks it (changes_of exchanges) its_last → StandAlike last.stored its_last.stored)
+        → StandAlike last.stored its_last.stored
     by (inl (none, is)) going_on =
         going_on other
-        (subst (λ (p : parts.State). StandAlike p other.pages) (sym is) same)
+        (subst (λ (p : Stored). StandAlike p other.stored) (sym is) same)
         (subst (λ (changes : List Request). Asks other (changes ++ changes_of exchanges) its_last) none asks)
     by (inr (change, only_one, asks_it, made)) going_on =
         let first_asks : Asks other (change ∷ changes_of exchanges) its_last =
         subst (λ (changes : List Request). Asks other (changes ++ changes_of exchanges) its_last) only_one asks in
         going_on first_asks.1
-        (made_again first.pages next.pages change (reply_again reply) made (spent_again reply ∙ both.0) asks_it other first_asks.1 first_asks.0 same
+        (made_again first.stored next.stored change (reply_again reply) made (spent_again reply ∙ both.0) asks_it other first_asks.1 first_asks.0 same
         first_asks.2 first_asks.3)
         first_asks.4
 
@@ -434,14 +445,17 @@ ready_run (no_request ∷ exchanges) first last ready (next, is, turns) utf8 =
 -- the wiki without words is ready
 pub first_ready : (g : GrammarParts) (budget : ℕ) → IsSound g → NoneIsRaised g.terminals → IsReady (first_state g budget)
 first_ready g budget sound apart = record {
-  pages = record { sound = sound; apart = apart; terminals = refl; readable = no_words g.terminals };
+  stored = record { sound = sound; apart = apart; terminals = refl; readable = no_words g.terminals };
   apt = omega arith;
   short = tt;
 }
 
 -- What stands is what is read.
 pub stands_again : (g : GrammarParts) → IsSound g → NoneIsRaised g.terminals → StandsAgain g
-stands_again g sound apart budget its_budget former exchanges again mid last its_last before turns its_turns same utf8_before utf8 kept_before kept its_kept =
+stands_again g sound apart budget its_budget former exchanges again mid last its_last before_it it its same utf8_before utf8 kept_before kept its_kept =
+    let before = parted_turns former (first_state g budget) mid before_it in
+    let turns = parted_turns exchanges mid last it in
+    let its_turns = parted_turns again (first_state g its_budget) its_last its in
     let ready = ready_run former (first_state g budget) mid (first_ready g budget sound apart) before utf8_before in
     let asks : Asks (first_state g its_budget) (asked_of former ++ changes_of exchanges) its_last =
     subst (λ (asked : List Request). Asks (first_state g its_budget) asked its_last) same

@@ -1,5 +1,5 @@
 -- What a word that is added leaves of sessions.
-use Rattle.std.proofs.Common.{◌≡◌, ℕ, ◌+◌, ◌<◌, ◌≤◌, ◌==◌, Bool, true, false, cond, List, [], ◌∷◌, ◌++◌, length, Option, Some, None, option_map, Result, Ok, Err, IfOk, OnErr, IsSome, is_some, refl, sym, ap, subst, ◌∙◌, arith}
+use Rattle.std.proofs.Common.{◌≡◌, ℕ, ◌+◌, ◌<◌, ◌≤◌, ◌==◌, Bool, true, false, cond, List, [], ◌∷◌, ◌++◌, length, Option, Some, None, option_map, Result, Ok, Err, IfOk, OnErr, IsSome, is_some, inl, refl, sym, ap, subst, ◌∙◌, arith}
 use Rattle.std.specs.Option.{option_or}
 use Rattle.std.proofs.lemmas.Bool.{false≢true}
 use Rattle.std.proofs.lemmas.Option.{none-some}
@@ -27,17 +27,19 @@ use Rattle.articles.specs.Articles.{new_article}
 use Rattle.wiki_talk.specs.declared.refusals.Refusal.TheVariants as refusals
 use Rattle.wiki_talk.specs.declared.replies.Reply.{Reply}
 use Rattle.wiki_talk.specs.declared.replies.Reply.TheVariants as replies
-use Rattle.wiki_talk.specs.declared.requests.Request.{Request}
+use Rattle.wiki_talk.specs.declared.requests.ArticleRequest.{ArticleRequest}
 use Rattle.wiki_talk.specs.declared.requests.Request.TheVariants as requests
-use Rattle.wiki_parts.specs.State as parts
+use Rattle.wiki_talk.specs.declared.requests.WikiRequest.TheVariants as on_wiki
+use Rattle.plain_wiki.specs.Stored.{Stored}
 use Rattle.wiki_parts.specs.Holding as holding
-use Rattle.wiki_parts.specs.Words.{canonical, bad_text, bad_count, lexicon_refusal, forms_given, word_refusal}
-use Rattle.wiki_store.specs.Step as store
-use Rattle.wiki_core.specs.Step.{StepsPages}
-use Rattle.wiki_core.specs.Keeping.{is_word, changes_words, AreHeld}
+use Rattle.plain_wiki.specs.Words.{canonical, bad_text, bad_count, lexicon_refusal, forms_given, word_refusal}
+use Rattle.plain_wiki.specs.Causes.{IsAbsent}
+use Rattle.plain_wiki.specs.Changes.{AddsWord}
+use Rattle.plain_wiki.specs.Step.{RefusesOnWiki}
+use Rattle.wiki_store.specs.Step.{StepsOnWiki, StepsOnArticle}
+use Rattle.wiki_core.specs.Keeping.{AreHeld}
 use Rattle.wiki_core.proofs.PagesLemmas.{keeps_same, step_keeps, go_on_begun}
 use Rattle.wiki_core.proofs.HeldLemmas.{Fits, fits_each, held_by, held_over}
-use Rattle.wiki_core.proofs.RunLemmas.{tells_word}
 
 -- no lexicon refuses forms for want of memory alone
 abbrev is_memory : Option LexFault → Bool
@@ -125,67 +127,50 @@ rebased_itself g words (s ∷ sessions) typeable = (
   rebased_itself g words sessions (All-tail (λ (t : PlainSession). IsTypeable g words t.tokens) s sessions typeable),
 )
 
-module _ (old new : parts.State) (sessions : List Session) (last : ℕ) (held : AreHeld old sessions last) (are : AreSessions sessions)
+module _ (old new : Stored) (sessions : List Session) (last : ℕ) (held : AreHeld old sessions last) (are : AreSessions sessions)
     (same : old.words.terminals ≡ old.grammar.terminals) where
-  -- a new word leaves what is kept
-  word_held : (kind : Kind) (texts : List (List ℕ)) (reply : Reply) → store.Step old (requests.Word kind texts) reply new → AreHeld new sessions last
-  word_held kind texts (replies.Refused refusal) step = held_over old new sessions last held (keeps_same old new step.1)
-  word_held kind texts replies.Word step =
-      let free = free_of old.words kind texts (none_of (word_refusal old.words kind texts) step.0) in
+  word_added : (kind : Kind) (texts : List (List ℕ)) → IsAbsent (RefusesOnWiki old (on_wiki.Word kind texts))
+      → new ≡ record old {
+        words = with_word old.words (forms_given kind texts);
+        articles = old.articles ++ new_article (next_word old.words (forms_given kind texts)).id ∷ [];
+      } → AreHeld new sessions last
+  word_added kind texts free_it after =
+      let free = free_of old.words kind texts (none_of (word_refusal old.words kind texts) (λ refusal told. free_it refusal (inl told))) in
       let begun = new_article (next_word old.words (forms_given kind texts)).id in
-      subst (λ (s : parts.State). AreHeld s sessions last) (sym step.1.after)
+      subst (λ (s : Stored). AreHeld s sessions last) (sym after)
       (held_by (record old { words = with_word old.words (forms_given kind texts); articles = old.articles ++ begun ∷ [] }) sessions last
       (kept_by_word old.grammar old.words (forms_given kind texts) sessions same free are held.kept)
       (All-weaker (Fits old.articles last) (Fits (old.articles ++ begun ∷ []) last)
       (λ s f. record { on = go_on_begun old.articles begun s f.on; numbered = f.numbered }) (all_plain sessions) (fits_each old sessions last held)))
-  word_held kind texts reply step = absurd (false≢true (ap tells_word step.1.answer))
 
-  word_steps : (kind : Kind) (texts : List (List ℕ)) (reply : Reply) → store.Step old (requests.Word kind texts) reply new
-      → StepsPages (record { pages = old; sessions = all_plain sessions; last = last }) (requests.Word kind texts) reply
-      (record { pages = new; sessions = all_plain sessions; last = last })
-  word_steps kind texts (replies.Refused refusal) step = record { pages = step; sessions = refl; last = refl }
-  word_steps kind texts replies.Word step = record {
-    pages = step;
-    sessions = rebased_itself new.grammar new.words (all_plain sessions)
-        (kept_typeable new.grammar new.words sessions are (word_held kind texts replies.Word step).kept);
-    last = refl;
-  }
-  word_steps kind texts reply step = absurd (false≢true (ap tells_word step.1.answer))
+  -- a new word leaves what is kept
+  word_held : (kind : Kind) (texts : List (List ℕ)) (reply : Reply) → StepsOnWiki old (on_wiki.Word kind texts) reply new → AreHeld new sessions last
+  word_held kind texts (replies.Refused refusal) step = held_over old new sessions last held (keeps_same old new step.1)
+  word_held kind texts reply step = word_added kind texts step.0 step.1.after
 
-  pub add_held : (request : Request) (reply : Reply) → is_word request ≡ true → store.Step old request reply new → AreHeld new sessions last
-  add_held (requests.Word kind texts) reply is step = word_held kind texts reply step
-  add_held request reply is step = absurd (false≢true is)
-
-  pub add_steps : (request : Request) (reply : Reply) → is_word request ≡ true → store.Step old request reply new
-      → StepsPages (record { pages = old; sessions = all_plain sessions; last = last }) request reply
-      (record { pages = new; sessions = all_plain sessions; last = last })
-  add_steps (requests.Word kind texts) reply is step = word_steps kind texts reply step
-  add_steps request reply is step = absurd (false≢true is)
+  -- and sessions are carried over it as they are
+  pub word_carried : (kind : Kind) (texts : List (List ℕ)) (reply : Reply) → IsAbsent (RefusesOnWiki old (on_wiki.Word kind texts))
+      → AddsWord old kind texts reply new → AreRebased new.grammar new.words (all_plain sessions) (all_plain sessions)
+  word_carried kind texts reply free does =
+      rebased_itself new.grammar new.words (all_plain sessions)
+      (kept_typeable new.grammar new.words sessions are (word_added kind texts free does.after).kept)
 
 -- so does the store's step, whether it answers or not
 pub held_after_word : (old new : holding.Holding) (sessions : List Session) (last : ℕ) → AreHeld old.state sessions last → AreSessions sessions
     → old.state.words.terminals ≡ old.state.grammar.terminals
-    → (request : Request) → is_word request ≡ true → (result : Result Reply Memory) → IfOk result (λ reply. store.Step old.state request reply new.state)
+    → (kind : Kind) (texts : List (List ℕ)) (result : Result Reply Memory)
+    → IfOk result (λ reply. StepsOnWiki old.state (on_wiki.Word kind texts) reply new.state)
     → OnErr result (new ≡ old) → AreHeld new.state sessions last
-held_after_word old new sessions last held are same request is (Ok reply) step kept =
-    add_held old.state new.state sessions last held are same request reply is step
-held_after_word old new sessions last held are same request is (Err memory) step kept =
+held_after_word old new sessions last held are same kind texts (Ok reply) step kept =
+    word_held old.state new.state sessions last held are same kind texts reply step
+held_after_word old new sessions last held are same kind texts (Err memory) step kept =
     subst (λ (h : holding.Holding). AreHeld h.state sessions last) (sym kept) held
 
-pub steps_word : (old new : holding.Holding) (sessions : List Session) (last : ℕ) → AreHeld old.state sessions last → AreSessions sessions
-    → old.state.words.terminals ≡ old.state.grammar.terminals
-    → (request : Request) → is_word request ≡ true → (result : Result Reply Memory) → IfOk result (λ reply. store.Step old.state request reply new.state)
-    → IfOk result (λ reply. StepsPages (record { pages = old.state; sessions = all_plain sessions; last = last }) request reply
-    (record { pages = new.state; sessions = all_plain sessions; last = last }))
-steps_word old new sessions last held are same request is (Ok reply) step = add_steps old.state new.state sessions last held are same request reply is step
-steps_word old new sessions last held are same request is (Err memory) step = step
-
--- and a step that changes no words
-pub held_after_pages : (old new : holding.Holding) (sessions : List Session) (last : ℕ) → AreHeld old.state sessions last → (request : Request)
-    → changes_words request ≡ false
-    → (result : Result Reply Memory) → IfOk result (λ reply. store.Step old.state request reply new.state) → OnErr result (new ≡ old)
-    → AreHeld new.state sessions last
-held_after_pages old new sessions last held request no_words (Ok reply) step kept =
-    held_over old.state new.state sessions last held (step_keeps old.state new.state request reply no_words step)
-held_after_pages old new sessions last held request no_words (Err memory) step kept =
+-- and a step on an article
+pub held_after_article : (old new : holding.Holding) (sessions : List Session) (last : ℕ) → AreHeld old.state sessions last → (form : List ℕ)
+    (asked : ArticleRequest) (result : Result Reply Memory) → IfOk result (λ reply. StepsOnArticle old.state form asked reply new.state)
+    → OnErr result (new ≡ old) → AreHeld new.state sessions last
+held_after_article old new sessions last held form asked (Ok reply) step kept =
+    held_over old.state new.state sessions last held (step_keeps old.state new.state (requests.OnArticle form asked) reply refl step)
+held_after_article old new sessions last held form asked (Err memory) step kept =
     subst (λ (h : holding.Holding). AreHeld h.state sessions last) (sym kept) held

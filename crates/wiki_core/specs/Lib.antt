@@ -1,5 +1,4 @@
 pub mod Apart
-pub mod Causes
 pub mod Counting
 pub mod Drafts
 pub mod Holding
@@ -7,6 +6,5 @@ pub mod Journaled
 pub mod Keeping
 pub mod Parts
 pub mod Spending
-pub mod State
 pub mod Step
 pub mod Stepping

@@ -8,18 +8,19 @@ use Rattle.wiki_talk.specs.declared.replies.Reply.{Reply}
 use Rattle.wiki_talk.specs.declared.replies.Reply.TheVariants as replies
 use Rattle.wiki_talk.specs.declared.requests.Request.{Request}
 use Rattle.wiki_talk.specs.declared.requests.Request.TheVariants as requests
-use Rattle.wiki_parts.specs.State as parts
-use Rattle.wiki_parts.specs.Knowledge.{Knows}
-use Rattle.wiki_store.specs.Appending.{with_appended}
+use Rattle.wiki_talk.specs.declared.requests.SessionRequest.TheVariants as on_session
+use Rattle.plain_wiki.specs.Stored.{Stored}
+use Rattle.plain_wiki.specs.Knowledge.{Knows}
+use Rattle.plain_wiki.specs.Changes.{with_appended}
 use Rattle.wiki_store.specs.Spending as store
-use Rattle.wiki_core.specs.State.{State}
-use Rattle.wiki_core.specs.Causes.{session_numbered}
-use Rattle.wiki_core.specs.Holding.{Holding, pages_held}
+use Rattle.plain_wiki.specs.State.{State}
+use Rattle.plain_wiki.specs.Causes.{session_numbered}
+use Rattle.wiki_core.specs.Holding.{Holding, stored_held}
 
 -- the words and sentences, with the tokens of a session taken as an asserted sentence at the end of its article
-abbrev pub taken_by_commit : State → ℕ → Option parts.State
+abbrev pub taken_by_commit : State → ℕ → Option Stored
 taken_by_commit old number =
-    option_map (λ session. with_appended old.pages session.article session.tokens Asserted) (session_numbered old number)
+    option_map (λ session. with_appended old.stored session.article session.tokens Asserted) (session_numbered old number)
 
 -- the status that a reply tells of a session's tokens
 abbrev pub status_committed : Reply → Option Status
@@ -34,5 +35,6 @@ CommitSpendsBeyondKept old number reply =
 
 -- a new sentence is red for the budget only where the kept interpretation is no model of what is known with it
 abbrev pub SpendsBeyondKept : Holding → Request → Reply → Type 0
-SpendsBeyondKept old (requests.Commit number) reply = CommitSpendsBeyondKept old number reply
-SpendsBeyondKept old request reply = store.SpendsBeyondKept (pages_held old) request reply
+SpendsBeyondKept old (requests.OnArticle form asked) reply = store.SpendsBeyondKept (stored_held old) (requests.OnArticle form asked) reply
+SpendsBeyondKept old (requests.OnSession number on_session.Commit) reply = CommitSpendsBeyondKept old number reply
+SpendsBeyondKept old request reply = Unit {0}

@@ -3,7 +3,7 @@ use Rattle.wiki_talk.specs.declared.replies.Reply.{Reply}
 use Rattle.wiki_talk.specs.declared.requests.Request.{Request}
 use Rattle.wiki_store.specs.Spending.{KeptHasEachUnknown}
 use Rattle.wiki_store.specs.Unchanged.{KeepsInterpretation}
-use Rattle.wiki_core.specs.Holding.{Holding, pages_held, IsKept}
+use Rattle.wiki_core.specs.Holding.{Holding, stored_held, IsKept}
 use Rattle.wiki_core.specs.Step.{Step}
 use Rattle.wiki_core.specs.Spending.{SpendsBeyondKept}
 use Rattle.wiki_core.specs.Apart.{MenuIsOwn}
@@ -15,8 +15,8 @@ use Rattle.wiki_core.specs.Journaled.{IsHeld}
 pub record KeptStep (old : Holding) (request : Request) (reply : Reply) (new : Holding) : Type 0 where
   pub step : Step old.state request reply new.state
   pub spent : SpendsBeyondKept old request reply
-  pub unknown : KeptHasEachUnknown (pages_held old) request reply
-  pub interpretation : KeepsInterpretation (pages_held old) reply (pages_held new)
+  pub unknown : KeptHasEachUnknown (stored_held old) request reply
+  pub interpretation : KeepsInterpretation (stored_held old) reply (stored_held new)
   pub menu : MenuIsOwn old.state request reply
   pub kept : IsKept new
   pub held : IsHeld request

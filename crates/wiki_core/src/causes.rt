@@ -5,7 +5,7 @@ ghost use Rattle.lexicon.specs.declared.words.TheConstants.{LAST_NUMBER as the_l
 ghost use Rattle.wiki_talk.specs.declared.limits.TheConstants.{MOST_SENTENCES as most_sentences, MOST_SESSIONS as most_sessions};
 ghost use Rattle.derivation_trees.specs.Sentences.{IsSentence};
 ghost use Rattle.sessions.specs.Sessions.{plain};
-ghost use Rattle.wiki_parts.specs.Words.{full_at};
+ghost use Rattle.plain_wiki.specs.Words.{full_at};
 
 use crate::wiki::Wiki;
 use articles::Article;
@@ -20,18 +20,19 @@ impl Wiki {
     ghost use Rattle.lexicon.specs.Words.{forms_of};
     ghost use Rattle.articles.specs.Articles.{article_of};
     ghost use Rattle.sessions.specs.Sessions.{IsKept as IsKeptEditor};
-    ghost use Rattle.wiki_parts.specs.Faults.{IsFault, IsAbsent};
-    ghost use Rattle.wiki_parts.specs.Knowledge.{sentences_in};
-    ghost use Rattle.wiki_parts.specs.Places.{word_named};
-    ghost use Rattle.wiki_parts.specs.Refusing.{NamesNoWord, IsFullOfSentences};
-    ghost use Rattle.wiki_core.specs.Causes.{session_numbered, NamesNoSession, IsFullOfSessions, IsOutOfNumbers, IsFullOfTokens, IsAtLastChange, IsStale, IsUnfinished};
+    ghost use Rattle.wiki_parts.specs.Faults.{IsFault};
+    ghost use Rattle.plain_wiki.specs.Causes.{IsAbsent};
+    ghost use Rattle.plain_wiki.specs.Knowledge.{sentences_in};
+    ghost use Rattle.plain_wiki.specs.Places.{word_named};
+    ghost use Rattle.plain_wiki.specs.Causes.{NamesNoWord, IsFullOfSentences};
+    ghost use Rattle.plain_wiki.specs.Causes.{session_numbered, NamesNoSession, IsFullOfSessions, IsOutOfNumbers, IsFullOfTokens, IsAtLastChange, IsStale, IsUnfinished};
 
     // The live word that has the form.
     pub(crate) fn named(&self, form: &Text8) -> Result<WordId, Fault>
-        ensures ok { IfOk result (λ word. word_named self.now.state.pages form.now ≡ Some word) }
-        ensures lives { IfOk result (λ word. IsSome (forms_of self.now.state.pages.words.live word)) }
-        ensures absent { OnOk result (IsAbsent (NamesNoWord self.now.state.pages form.now)) }
-        ensures refused { IfErr result (IsFault (NamesNoWord self.now.state.pages form.now)) }
+        ensures ok { IfOk result (λ word. word_named self.now.state.stored form.now ≡ Some word) }
+        ensures lives { IfOk result (λ word. IsSome (forms_of self.now.state.stored.words.live word)) }
+        ensures absent { OnOk result (IsAbsent (NamesNoWord self.now.state.stored form.now)) }
+        ensures refused { IfErr result (IsFault (NamesNoWord self.now.state.stored form.now)) }
     {
         match self.store.lexicon().find(form.as_str()) {
             Some(word) => Ok(word),
@@ -42,7 +43,7 @@ impl Wiki {
     // The session with the number.
     pub(crate) fn session(&self, number: u32) -> Result<&Session, Fault>
         ensures found { IfOk result (λ session. session_numbered self.now.state number ≡ Some (plain session.now)) }
-        ensures kept { IfOk result (λ session. IsKeptEditor self.now.state.pages.grammar self.now.state.pages.words session.now) }
+        ensures kept { IfOk result (λ session. IsKeptEditor self.now.state.stored.grammar self.now.state.stored.words session.now) }
         ensures absent { OnOk result (IsAbsent (NamesNoSession self.now.state number)) }
         ensures refused { IfErr result (IsFault (NamesNoSession self.now.state number)) }
     {
@@ -80,8 +81,8 @@ impl Wiki {
 
     // The article of a live word.
     pub(crate) fn article(&self, word: WordId) -> &Article
-        requires { IsSome (forms_of self.now.state.pages.words.live word) }
-        ensures { article_of self.now.state.pages.articles word ≡ Some result.now }
+        requires { IsSome (forms_of self.now.state.stored.words.live word) }
+        ensures { article_of self.now.state.stored.articles word ≡ Some result.now }
     {
         match self.store.article_of(word) {
             Some(article) => article,
@@ -92,7 +93,7 @@ impl Wiki {
     // The article that a session is on.
     pub(crate) fn article_edited(&self, session: &Session, number: u32) -> &Article
         requires { session_numbered self.now.state number ≡ Some (plain session.now) }
-        ensures on { article_of self.now.state.pages.articles session.now.article ≡ Some result.now }
+        ensures on { article_of self.now.state.stored.articles session.now.article ≡ Some result.now }
         ensures seen { session.now.revision.0 ≤ result.now.revision.0 }
     {
         match self.store.article_of(session.article) {
@@ -119,9 +120,9 @@ impl Wiki {
 
     // Whether there may be one sentence more.
     pub(crate) fn has_room_for_sentence(&self) -> Result<(), Fault>
-        ensures room { OnOk result (length (sentences_in self.now.state.pages.articles) < most_sentences) }
-        ensures absent { OnOk result (IsAbsent (IsFullOfSentences self.now.state.pages)) }
-        ensures refused { IfErr result (IsFault (IsFullOfSentences self.now.state.pages)) }
+        ensures room { OnOk result (length (sentences_in self.now.state.stored.articles) < most_sentences) }
+        ensures absent { OnOk result (IsAbsent (IsFullOfSentences self.now.state.stored)) }
+        ensures refused { IfErr result (IsFault (IsFullOfSentences self.now.state.stored)) }
     {
         if self.store.sentence_count() >= MOST_SENTENCES as usize {
             Err(Fault::Refused(full(Limit::Sentences)))
@@ -138,7 +139,7 @@ impl Wiki {
         number: u32,
     ) -> Result<(), Fault>
         requires named { session_numbered self.now.state number ≡ Some (plain session.now) }
-        requires on { article_of self.now.state.pages.articles session.now.article ≡ Some article.now }
+        requires on { article_of self.now.state.stored.articles session.now.article ≡ Some article.now }
         ensures open { OnOk result (article.now.revision.0 < the_last) }
         ensures absent { OnOk result (IsAbsent (IsAtLastChange self.now.state number)) }
         ensures refused { IfErr result (IsFault (IsAtLastChange self.now.state number)) }
@@ -158,7 +159,7 @@ impl Wiki {
         number: u32,
     ) -> Result<(), Fault>
         requires named { session_numbered self.now.state number ≡ Some (plain session.now) }
-        requires on { article_of self.now.state.pages.articles session.now.article ≡ Some article.now }
+        requires on { article_of self.now.state.stored.articles session.now.article ≡ Some article.now }
         ensures absent { OnOk result (IsAbsent (IsStale self.now.state number)) }
         ensures refused { IfErr result (IsFault (IsStale self.now.state number)) }
     {
@@ -173,8 +174,8 @@ impl Wiki {
     // Whether the session's tokens are a sentence.
     pub(crate) fn is_finished(&self, session: &Session, number: u32) -> Result<(), Fault>
         requires named { session_numbered self.now.state number ≡ Some (plain session.now) }
-        requires kept { IsKeptEditor self.now.state.pages.grammar self.now.state.pages.words session.now }
-        ensures sentence { OnOk result (IsSentence self.now.state.pages.grammar self.now.state.pages.words session.now.editor.tokens) }
+        requires kept { IsKeptEditor self.now.state.stored.grammar self.now.state.stored.words session.now }
+        ensures sentence { OnOk result (IsSentence self.now.state.stored.grammar self.now.state.stored.words session.now.editor.tokens) }
         ensures absent { OnOk result (IsAbsent (IsUnfinished self.now.state number)) }
         ensures refused { IfErr result (IsFault (IsUnfinished self.now.state number)) }
     {

@@ -1,11 +1,11 @@
 // What a program can hold of a request.
-ghost use Rattle.std.specs.Prelude.{◌≡◌, ◌≤◌, true, All, IsUtf8};
+ghost use Rattle.std.specs.Prelude.{◌≡◌, ◌≤◌, ℕ, List, true, All, IsUtf8};
 ghost use Rattle.lexicon.specs.declared.words.TheConstants.{LAST_NUMBER};
 ghost use Rattle.wiki_core.specs.Journaled.{IsHeld};
 
 use lexicon::LAST_NUMBER;
 use wiki_base::Text8s;
-use wiki_talk::Request;
+use wiki_talk::{ArticleRequest, Request, WikiRequest, WordRequest};
 
 // Whether the forms that a request gives are in UTF-8, and its place has 32 bits, as always.
 pub fn is_held(request: &Request) -> bool
@@ -13,14 +13,28 @@ pub fn is_held(request: &Request) -> bool
     ensures held { IsHeld request.now }
 {
     match request {
-        Request::Word { forms, .. } => are_utf8(forms),
-        Request::Reword { forms, .. } => are_utf8(forms),
-        Request::Add { at, .. } => is_short(at.unwrap_or(0)),
-        Request::Edit { at, .. } => is_short(*at),
-        Request::Remove { at, .. } => is_short(*at),
-        Request::Retract { at, .. } => is_short(*at),
-        Request::Reassert { at, .. } => is_short(*at),
+        Request::OnWiki(WikiRequest::Word { forms, .. }) => are_utf8(forms),
+        Request::OnWord {
+            asked: WordRequest::Reword { forms },
+            ..
+        } => are_utf8(forms),
+        Request::OnArticle { asked, .. } => names_short(asked),
         _ => true,
+    }
+}
+
+// Whether the place that is asked for, if one is, has 32 bits, as always.
+fn names_short(asked: &ArticleRequest) -> bool
+    ensures yes { result ≡ true }
+    ensures held { (article : List ℕ) → IsHeld (Request.OnArticle article asked.now) }
+{
+    match asked {
+        ArticleRequest::Add { at, .. } => is_short(at.unwrap_or(0)),
+        ArticleRequest::Edit { at, .. } => is_short(*at),
+        ArticleRequest::Remove { at } => is_short(*at),
+        ArticleRequest::Retract { at } => is_short(*at),
+        ArticleRequest::Reassert { at } => is_short(*at),
+        ArticleRequest::Read | ArticleRequest::Axioms { .. } => true,
     }
 }
 

@@ -4,19 +4,20 @@ ghost use Rattle.std.specs.Prelude.{◌≡◌, IfOk, IfErr, OnErr};
 use crate::wiki::Wiki;
 use wiki_base::{SessionId, Text8};
 use wiki_parts::Fault;
-use wiki_talk::{Reply, Request};
+use wiki_talk::{Reply, Request, SessionRequest};
 
 impl Wiki {
     ghost use Rattle.wiki_parts.specs.Faults.{IsFault};
-    ghost use Rattle.wiki_core.specs.Step.{StepsSession, Refuses};
-    ghost use Rattle.wiki_core.specs.Holding.{pages_held};
+    ghost use Rattle.plain_wiki.specs.Step.{Refuses};
+    ghost use Rattle.wiki_core.specs.Step.{Step};
+    ghost use Rattle.wiki_core.specs.Holding.{stored_held};
     ghost use Rattle.wiki_store.specs.Unchanged.{KeepsInterpretation};
 
     // Opens a session on the article of a word.
     pub(crate) fn open(&mut self, form: &Text8) -> Result<Reply, Fault>
-        ensures step { IfOk result (λ reply. StepsSession self.old.state (Request.Begin form.now) reply self.new.state) }
-        ensures interpretation { IfOk result (λ reply. KeepsInterpretation (pages_held self.old) reply (pages_held self.new)) }
-        ensures refused { IfErr result (IsFault (Refuses self.old.state (Request.Begin form.now))) }
+        ensures step { IfOk result (λ reply. Step self.old.state (Request.Open form.now) reply self.new.state) }
+        ensures interpretation { IfOk result (λ reply. KeepsInterpretation (stored_held self.old) reply (stored_held self.new)) }
+        ensures refused { IfErr result (IsFault (Refuses self.old.state (Request.Open form.now))) }
         ensures kept { OnErr result (self.new ≡ self.old) }
     {
         let word = self.named(form)?;
@@ -26,14 +27,14 @@ impl Wiki {
         self.sessions
             .open(self.store.grammar(), SessionId(number), word, revision)?;
         self.last = number;
-        Ok(Reply::Begin { session: number })
+        Ok(Reply::Open { session: number })
     }
 
     // Lets a session take note of the changes of its article.
     pub(crate) fn refresh(&mut self, number: u32) -> Result<Reply, Fault>
-        ensures step { IfOk result (λ reply. StepsSession self.old.state (Request.Refresh number) reply self.new.state) }
-        ensures interpretation { IfOk result (λ reply. KeepsInterpretation (pages_held self.old) reply (pages_held self.new)) }
-        ensures refused { IfErr result (IsFault (Refuses self.old.state (Request.Refresh number))) }
+        ensures step { IfOk result (λ reply. Step self.old.state (Request.OnSession number SessionRequest.Refresh) reply self.new.state) }
+        ensures interpretation { IfOk result (λ reply. KeepsInterpretation (stored_held self.old) reply (stored_held self.new)) }
+        ensures refused { IfErr result (IsFault (Refuses self.old.state (Request.OnSession number SessionRequest.Refresh))) }
         ensures kept { OnErr result (self.new ≡ self.old) }
     {
         let _ = self.sessions.len();
@@ -45,9 +46,9 @@ impl Wiki {
 
     // Ends a session.
     pub(crate) fn end(&mut self, number: u32) -> Result<Reply, Fault>
-        ensures step { IfOk result (λ reply. StepsSession self.old.state (Request.Drop number) reply self.new.state) }
-        ensures interpretation { IfOk result (λ reply. KeepsInterpretation (pages_held self.old) reply (pages_held self.new)) }
-        ensures refused { IfErr result (IsFault (Refuses self.old.state (Request.Drop number))) }
+        ensures step { IfOk result (λ reply. Step self.old.state (Request.OnSession number SessionRequest.Drop) reply self.new.state) }
+        ensures interpretation { IfOk result (λ reply. KeepsInterpretation (stored_held self.old) reply (stored_held self.new)) }
+        ensures refused { IfErr result (IsFault (Refuses self.old.state (Request.OnSession number SessionRequest.Drop))) }
         ensures kept { OnErr result (self.new ≡ self.old) }
     {
         self.session(number)?;

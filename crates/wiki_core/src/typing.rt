@@ -8,27 +8,29 @@ use editor::TypeFault;
 use lists::Copied;
 use wiki_base::{Memory, SessionId, Text8};
 use wiki_parts::{Fault, told_menu};
-use wiki_talk::{Refusal, Reply, Request};
+use wiki_talk::{Refusal, Reply, Request, SessionRequest};
 
 impl Wiki {
-    ghost use Rattle.wiki_parts.specs.Faults.{IsFault, IsAbsent};
-    ghost use Rattle.wiki_core.specs.Causes.{session_numbered, IsNotOffered};
+    ghost use Rattle.wiki_parts.specs.Faults.{IsFault};
+    ghost use Rattle.plain_wiki.specs.Causes.{IsAbsent};
+    ghost use Rattle.plain_wiki.specs.Causes.{session_numbered, IsNotOffered};
     ghost use Rattle.wiki_core.specs.Drafts.{with_typed};
-    ghost use Rattle.wiki_core.specs.Step.{StepsSession, Refuses};
-    ghost use Rattle.wiki_core.specs.Holding.{pages_held};
+    ghost use Rattle.plain_wiki.specs.Step.{Refuses};
+    ghost use Rattle.wiki_core.specs.Step.{Step};
+    ghost use Rattle.wiki_core.specs.Holding.{stored_held};
     ghost use Rattle.wiki_store.specs.Unchanged.{KeepsInterpretation};
 
     // Types one token more.
     pub(crate) fn type_token(&mut self, number: u32, text: &Text8) -> Result<Reply, Fault>
-        ensures step { IfOk result (λ reply. StepsSession self.old.state (Request.Put number text.now) reply self.new.state) }
-        ensures interpretation { IfOk result (λ reply. KeepsInterpretation (pages_held self.old) reply (pages_held self.new)) }
-        ensures refused { IfErr result (IsFault (Refuses self.old.state (Request.Put number text.now))) }
+        ensures step { IfOk result (λ reply. Step self.old.state (Request.OnSession number (SessionRequest.Type text.now)) reply self.new.state) }
+        ensures interpretation { IfOk result (λ reply. KeepsInterpretation (stored_held self.old) reply (stored_held self.new)) }
+        ensures refused { IfErr result (IsFault (Refuses self.old.state (Request.OnSession number (SessionRequest.Type text.now)))) }
         ensures kept { OnErr result (self.new ≡ self.old) }
     {
         let session = self.session(number)?;
         let count = self.has_place(session, number)?;
         self.put(number, text)?;
-        Ok(Reply::Put { tokens: count + 1 })
+        Ok(Reply::Type { tokens: count + 1 })
     }
 
     // Adds the text as a token, if the menu of the session's tokens has it.
@@ -56,9 +58,9 @@ impl Wiki {
 
     // Drops the last token.
     pub(crate) fn back(&mut self, number: u32) -> Result<Reply, Fault>
-        ensures step { IfOk result (λ reply. StepsSession self.old.state (Request.Back number) reply self.new.state) }
-        ensures interpretation { IfOk result (λ reply. KeepsInterpretation (pages_held self.old) reply (pages_held self.new)) }
-        ensures refused { IfErr result (IsFault (Refuses self.old.state (Request.Back number))) }
+        ensures step { IfOk result (λ reply. Step self.old.state (Request.OnSession number SessionRequest.Back) reply self.new.state) }
+        ensures interpretation { IfOk result (λ reply. KeepsInterpretation (stored_held self.old) reply (stored_held self.new)) }
+        ensures refused { IfErr result (IsFault (Refuses self.old.state (Request.OnSession number SessionRequest.Back))) }
         ensures kept { OnErr result (self.new ≡ self.old) }
     {
         let count = self.session(number)?.editor.tokens().len();
@@ -73,8 +75,8 @@ impl Wiki {
 
     // Tells what may follow the tokens.
     pub(crate) fn menu(&self, number: u32) -> Result<Reply, Fault>
-        ensures step { IfOk result (λ reply. StepsSession self.now.state (Request.Menu number) reply self.now.state) }
-        ensures refused { IfErr result (IsFault (Refuses self.now.state (Request.Menu number))) }
+        ensures step { IfOk result (λ reply. Step self.now.state (Request.OnSession number SessionRequest.Menu) reply self.now.state) }
+        ensures refused { IfErr result (IsFault (Refuses self.now.state (Request.OnSession number SessionRequest.Menu))) }
     {
         let editor = &self.session(number)?.editor;
         let menu = editor.menu(self.store.grammar(), self.store.lexicon())?;

@@ -1,6 +1,5 @@
 // The wiki and its step.
 ghost use Rattle.std.specs.Prelude.{◌≡◌, Err, IsTrue, IfOk, OnErr};
-ghost use Rattle.wiki_talk.specs.declared.refusals.Refusal.{Refusal as TheRefusal};
 ghost use Rattle.wiki_parts.specs.Faults.{Tells};
 
 use crate::held::is_held;
@@ -32,7 +31,7 @@ impl Model for Wiki {
     ghost Value = { Holding };
 
     ghost view = { λ w. record {
-      state = record { pages = w.store.state; sessions = all_plain w.sessions; last = w.last };
+      state = record { stored = w.store.state; sessions = all_plain w.sessions; last = w.last };
       interpretation = w.store.interpretation;
     } };
 
@@ -42,10 +41,10 @@ impl Model for Wiki {
 impl Wiki {
     ghost use Rattle.codeco_checked.specs.Sound.{is_labelled};
     ghost use Rattle.wiki_core.specs.Apart.{MenuIsOwn, TokensAreOwn};
-    ghost use Rattle.wiki_core.specs.Holding.{first_holding, pages_held, IsKept};
+    ghost use Rattle.wiki_core.specs.Holding.{first_holding, stored_held, IsKept};
     ghost use Rattle.wiki_core.specs.Journaled.{NoneIsRaised, AreShort, AreUtf8, IsHeld, StandsAgain, ChangesFitLines};
     ghost use Rattle.wiki_core.specs.Spending.{SpendsBeyondKept};
-    ghost use Rattle.wiki_core.specs.Step.{Step, StepsSession};
+    ghost use Rattle.wiki_core.specs.Step.{Step};
     ghost use Rattle.wiki_store.specs.Spending.{KeptHasEachUnknown};
     ghost use Rattle.wiki_store.specs.Unchanged.{KeepsInterpretation};
 
@@ -72,8 +71,8 @@ impl Wiki {
     pub fn step(&mut self, request: &Request) -> Result<Reply, Memory>
         ensures step { IfOk result (λ reply. Step self.old.state request.now reply self.new.state) }
         ensures spent { IfOk result (SpendsBeyondKept self.old request.now) }
-        ensures unknown { IfOk result (KeptHasEachUnknown (pages_held self.old) request.now) }
-        ensures interpretation { IfOk result (λ reply. KeepsInterpretation (pages_held self.old) reply (pages_held self.new)) }
+        ensures unknown { IfOk result (KeptHasEachUnknown (stored_held self.old) request.now) }
+        ensures interpretation { IfOk result (λ reply. KeepsInterpretation (stored_held self.old) reply (stored_held self.new)) }
         ensures kept { IsKept self.new }
         ensures menu { IfOk result (MenuIsOwn self.old.state request.now) }
         ensures held { IsHeld request.now }
@@ -97,31 +96,16 @@ impl Wiki {
     fn carry_out(&mut self, request: &Request) -> Result<Reply, Memory>
         ensures step { IfOk result (λ reply. Step self.old.state request.now reply self.new.state) }
         ensures spent { IfOk result (SpendsBeyondKept self.old request.now) }
-        ensures unknown { IfOk result (KeptHasEachUnknown (pages_held self.old) request.now) }
-        ensures interpretation { IfOk result (λ reply. KeepsInterpretation (pages_held self.old) reply (pages_held self.new)) }
+        ensures unknown { IfOk result (KeptHasEachUnknown (stored_held self.old) request.now) }
+        ensures interpretation { IfOk result (λ reply. KeepsInterpretation (stored_held self.old) reply (stored_held self.new)) }
         ensures memory { OnErr result (self.new ≡ self.old) }
     {
         match request {
-            Request::Begin { article } => told(self.open(article)),
-            Request::Put { session, text } => told(self.type_token(*session, text)),
-            Request::Back { session } => told(self.back(*session)),
-            Request::Menu { session } => told(self.menu(*session)),
-            Request::Commit { session } => told(self.commit(*session)),
-            Request::Refresh { session } => told(self.refresh(*session)),
-            Request::Drop { session } => told(self.end(*session)),
-            Request::Word { .. } => self.add_word(request),
-            Request::Reword { word, forms } => told(self.reword(word, forms.as_slice())),
-            Request::Unword { word } => told(self.unword(word)),
-            Request::Find { .. } => self.step_pages(request),
-            Request::Words => self.step_pages(request),
-            Request::Parse { .. } => self.step_pages(request),
-            Request::Add { .. } => self.step_pages(request),
-            Request::Edit { .. } => self.step_pages(request),
-            Request::Remove { .. } => self.step_pages(request),
-            Request::Retract { .. } => self.step_pages(request),
-            Request::Reassert { .. } => self.step_pages(request),
-            Request::Read { .. } => self.step_pages(request),
-            Request::Axioms { .. } => self.step_pages(request),
+            Request::OnWiki(asked) => self.on_wiki(asked),
+            Request::OnWord { word, asked } => self.on_word(word, asked),
+            Request::OnArticle { article, asked } => self.on_article(article, asked),
+            Request::Open { article } => told(self.open(article)),
+            Request::OnSession { session, asked } => self.on_session(*session, asked),
         }
     }
 }

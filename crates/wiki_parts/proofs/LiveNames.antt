@@ -48,7 +48,7 @@ use Rattle.drs_build.specs.Nodes.{is_name as is_name_word}
 use Rattle.derivation_trees.specs.Sketches.{body_of}
 use Rattle.drs_build.proofs.NodeLemmas.{names_of_is}
 use Rattle.drs_build.proofs.GrammarLemmas.{Found, found, taken}
-use Rattle.wiki_parts.specs.Knowledge.{is_name, live_names}
+use Rattle.plain_wiki.specs.Knowledge.{is_name, live_names}
 use Rattle.wiki_parts.proofs.NameLemmas.{names_among}
 use Rattle.wiki_parts.proofs.PassingLemmas.{words_pass}
 

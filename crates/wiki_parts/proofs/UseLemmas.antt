@@ -16,8 +16,8 @@ use Rattle.lexicon.specs.Words.{is_among, has_number, forms_of}
 use Rattle.articles.specs.declared.sentences.Sentence.{Sentence}
 use Rattle.articles.specs.declared.article.Article.{Article}
 use Rattle.articles.specs.Articles.{article_of}
-use Rattle.wiki_parts.specs.Refusing.{uses_word}
-use Rattle.wiki_parts.specs.Places.{Placed, placed_from, placed_in, all_placed, told_place}
+use Rattle.plain_wiki.specs.Causes.{uses_word}
+use Rattle.plain_wiki.specs.Places.{Placed, placed_from, placed_in, all_placed, told_place}
 
 -- a place in the article of a word
 abbrev pub place_in : WordId → ℕ → Place

@@ -5,7 +5,7 @@ use Rattle.logic_terms.specs.Concept.{Concept, Claim}
 use Rattle.tableau_rules.specs.Graph.{Graph}
 use Rattle.reasoner.specs.Verdicts.{SpendsAll}
 use Rattle.answers.specs.Answered.{denied, IsUnknown}
-use Rattle.wiki_parts.specs.Knowledge.{IsCutOff}
+use Rattle.wiki_parts.specs.Spent.{IsCutOff}
 
 -- a search that spent its budget was cut off
 pub cut_from_spent : (claims : List Claim) (names : List WordId) (budget : ℕ) (g : Graph) → SpendsAll claims names budget g → IsCutOff claims names budget

@@ -16,10 +16,6 @@ abbrev pub IsFault : (Refusal → Type 0) → Fault → Type 0
 IsFault cause (Refused refusal) = cause refusal
 IsFault cause Memory = ⊤
 
--- the cause stands for no refusal
-abbrev pub IsAbsent : (Refusal → Type 0) → Type 0
-IsAbsent cause = (refusal : Refusal) → ¬ cause refusal
-
 -- the reply is the one that was made, or tells the refusal
 abbrev pub Tells : Result Reply Fault → Reply → Type 0
 Tells (Ok made) reply = reply ≡ made

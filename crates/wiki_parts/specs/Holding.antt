@@ -4,17 +4,16 @@ use Rattle.wiki_base.specs.declared.tokens.TheConstants.{MOST_TOKENS}
 use Rattle.codeco_terms.specs.GrammarParts.{GrammarParts}
 use Rattle.logic_terms.specs.Concept.{Claim}
 use Rattle.logic_terms.specs.Interpretation.{Interpretation}
-use Rattle.reasoner.specs.Verdicts.{IsFiniteModel}
+use Rattle.plain_wiki.specs.Knowledge.{IsFiniteModel, sentences_in, Knows}
 use Rattle.wiki_talk.specs.declared.statuses.Status.{Status}
 use Rattle.wiki_talk.specs.declared.statuses.Status.TheVariants.{Asserted, Retracted, RedContradiction, RedBudget, Outside, Question, QuestionOutside}
 use Rattle.articles.specs.declared.sentences.Sentence.{Sentence}
-use Rattle.wiki_parts.specs.State.{State, IsSound, first_state}
-use Rattle.wiki_parts.specs.Meanings.{Meaning, stating, outside, asking, asking_outside, Means, MeansFaithfully}
-use Rattle.wiki_parts.specs.Knowledge.{sentences_in, Knows}
+use Rattle.plain_wiki.specs.Stored.{Stored, IsSound, first_stored}
+use Rattle.plain_wiki.specs.Meanings.{Meaning, stating, outside, asking, asking_outside, Means, MeansFaithfully}
 
 -- a wiki: its state, and the interpretation that it keeps
 pub record Holding : Type 0 where
-  pub state : State
+  pub state : Stored
   pub interpretation : Interpretation
 
 -- the interpretation of one element, in which nothing holds
@@ -23,7 +22,7 @@ first_interpretation = record { size = 1; names = []; classes = []; relations = 
 
 -- the wiki without words, which knows nothing
 abbrev pub first_holding : GrammarParts → ℕ → Holding
-first_holding grammar budget = record { state = first_state grammar budget; interpretation = first_interpretation }
+first_holding grammar budget = record { state = first_stored grammar budget; interpretation = first_interpretation }
 
 -- the status is one that a sentence of this meaning may have
 abbrev pub FitsMeaning : Status → Meaning → Type 0
@@ -37,7 +36,7 @@ FitsMeaning (QuestionOutside cause) (asking_outside other) = cause ≡ other
 FitsMeaning _ _ = ⊥
 
 -- a stored sentence: it has a derivation from the present words, what it means keeps its truth, and its status fits that
-pub record IsStored (state : State) (sentence : Sentence) : Type 0 where
+pub record IsStored (state : Stored) (sentence : Sentence) : Type 0 where
   pub meaning : Meaning
   pub means : Means state.grammar state.words sentence.tokens meaning
   pub faithful : MeansFaithfully state.grammar state.words sentence.tokens

@@ -14,9 +14,10 @@ use Rattle.wiki_talk.specs.declared.statuses.Status.TheVariants.{Asserted, Outsi
 use Rattle.articles.specs.declared.sentences.Sentence.{Sentence}
 use Rattle.articles.specs.declared.article.Article.{Article}
 use Rattle.wiki_parts.specs.declared.meanings.Sense.{Sense}
-use Rattle.wiki_parts.specs.Meanings.{Meaning, stating, outside, asking, asking_outside, Means}
-use Rattle.wiki_parts.specs.Knowledge.{is_asserted, sentences_in, IsAllowed}
-use Rattle.wiki_parts.specs.State.{State, IsSound}
+use Rattle.plain_wiki.specs.Meanings.{Meaning, stating, outside, asking, asking_outside, Means}
+use Rattle.plain_wiki.specs.Knowledge.{is_asserted, sentences_in}
+use Rattle.wiki_parts.specs.Spent.{IsAllowed}
+use Rattle.plain_wiki.specs.Stored.{Stored, IsSound}
 use Rattle.wiki_parts.specs.Holding.{FitsMeaning}
 use Rattle.wiki_parts.specs.Found.{meaning_shown}
 
@@ -93,7 +94,7 @@ Stands claims names budget (asking_outside cause) status = status ≡ QuestionOu
 
 -- What the program keeps beside a state: the meaning of each sentence, and a model of the axioms that are known. Each sentence
 -- is one of so many tokens at most, and there are so many sentences at most.
-pub record IsKeeping (state : State) (senses : List (List Sense)) (model : CheckedModel) : Type 0 where
+pub record IsKeeping (state : Stored) (senses : List (List Sense)) (model : CheckedModel) : Type 0 where
   pub sound : IsSound state
   pub mean : MeanInEach state.grammar state.words state.articles senses
   pub known : kept_claims model ≡ known_in state.articles senses

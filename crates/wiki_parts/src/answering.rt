@@ -11,8 +11,9 @@ ghost use Rattle.logic_terms.specs.Shown.{concept_of};
 ghost use Rattle.owl_eval.specs.Checked.{kept_interp, kept_claims};
 ghost use Rattle.consequences.specs.Known.{theory_in};
 ghost use Rattle.wiki_base.specs.declared.numbers.WordId.{WordId};
-ghost use Rattle.wiki_parts.specs.Knowledge.{Answer, live_names};
-ghost use Rattle.wiki_parts.specs.Telling.{spelled};
+ghost use Rattle.wiki_parts.specs.Spent.{Answer};
+ghost use Rattle.plain_wiki.specs.Knowledge.{live_names};
+ghost use Rattle.plain_wiki.specs.Telling.{spelled};
 
 use answers::{Answers, ask, ask_known};
 use consequences::Consequences;

@@ -6,7 +6,7 @@ ghost use Rattle.logic_terms.specs.Shown.{claims_of};
 ghost use Rattle.logic_terms.specs.Reading.{IsModel};
 ghost use Rattle.owl_eval.specs.Checked.{kept_interp, kept_claims};
 ghost use Rattle.wiki_parts.specs.Judgements.{status_in, IfTaken, IfSpent};
-ghost use Rattle.wiki_parts.specs.Knowledge.{IsAllowed};
+ghost use Rattle.wiki_parts.specs.Spent.{IsAllowed};
 
 use logic_terms::{Axioms, Names};
 use owl_eval::CheckedModel;

@@ -24,11 +24,10 @@ use Rattle.articles.proofs.PlaceLemmas.{article_at, with_change-set}
 use Rattle.wiki_parts.specs.declared.meanings.Sense.{Sense}
 use Rattle.wiki_parts.specs.Holding.{FitsMeaning, Holding}
 use Rattle.wiki_parts.specs.Kept.{meanings_in, known_around, IsAround, MeanEach, MeanInEach, IsKeeping}
-use Rattle.wiki_parts.specs.Knowledge.{sentences_in}
-use Rattle.wiki_parts.specs.Meanings.{Meaning, stating, outside, asking, asking_outside, Means}
-use Rattle.wiki_parts.specs.Places.{word_named, sentence_named}
-use Rattle.wiki_parts.specs.Refusing.{may_retract}
-use Rattle.wiki_parts.specs.State.{State, IsSound}
+use Rattle.plain_wiki.specs.Knowledge.{sentences_in, is_asserted}
+use Rattle.plain_wiki.specs.Meanings.{Meaning, stating, outside, asking, asking_outside, Means}
+use Rattle.plain_wiki.specs.Places.{word_named, sentence_named}
+use Rattle.plain_wiki.specs.Stored.{Stored, IsSound}
 use Rattle.wiki_store.proofs.KeepingLemmas.{all_parts, as_many_lists}
 use Rattle.wiki_store.proofs.AroundLemmas.{known_taken, known_retracted, mean_at, around_there}
 
@@ -93,7 +92,7 @@ module _ (word : WordId) (change : List Sentence → List Sentence) where
       by_test false = omega arith
 
   -- the changed wiki is sound
-  pub sound-with_change : ((ss : List Sentence) → length (change ss) ≤ length ss) → (state : State) → IsSound state
+  pub sound-with_change : ((ss : List Sentence) → length (change ss) ≤ length ss) → (state : Stored) → IsSound state
       → IsSound (record state { articles = with_change state.articles word change })
   sound-with_change no_more state sound = record {
     labelled = sound.labelled;
@@ -204,7 +203,7 @@ short-with_status at status ss all = by_item (slice_get ss at) refl
         All-set (λ (t : Sentence). length t.tokens ≤ MOST_TOKENS) ss at (record s { status = status }) short all
 
 -- a retracted sentence states what it did
-pub retracted-fits : (status : Status) (m : Meaning) → may_retract status ≡ true → FitsMeaning status m → FitsMeaning statuses.Retracted m
+pub retracted-fits : (status : Status) (m : Meaning) → is_asserted status ≡ true → FitsMeaning status m → FitsMeaning statuses.Retracted m
 retracted-fits statuses.Asserted (stating claims) may fits = tt
 retracted-fits statuses.Asserted (outside cause) may fits = absurd fits
 retracted-fits statuses.Asserted (asking concept) may fits = absurd fits
@@ -216,7 +215,7 @@ retracted-fits (statuses.Outside cause) m may fits = absurd (false≢true may)
 retracted-fits statuses.Question m may fits = absurd (false≢true may)
 retracted-fits (statuses.QuestionOutside cause) m may fits = absurd (false≢true may)
 
-module _ (state : State) (senses : List (List Sense)) (model : CheckedModel) (keeping : IsKeeping state senses model) (ordered : AreInOrder state.articles)
+module _ (state : Stored) (senses : List (List Sense)) (model : CheckedModel) (keeping : IsKeeping state senses model) (ordered : AreInOrder state.articles)
     (word : WordId) (place at : ℕ) (is : IsPlaceOf state.articles word place) (around : IsAround state.articles senses place at (at + 1))
     (after : CheckedModel) (claims : kept_claims after ≡ known_around state.articles senses place at [] (at + 1)) where
   lists : length senses ≡ length state.articles
@@ -249,7 +248,7 @@ module _ (state : State) (senses : List (List Sense)) (model : CheckedModel) (ke
       }
 
   -- what is kept where the sentence, which was asserted, is retracted
-  pub keeps_marked : IsSomeAnd (sentence_at state.articles word at) (λ sentence. may_retract sentence.status ≡ true)
+  pub keeps_marked : IsSomeAnd (sentence_at state.articles word at) (λ sentence. is_asserted sentence.status ≡ true)
       → IsKeeping (record state { articles = with_change state.articles word (λ sentences. with_status sentences at statuses.Retracted) }) senses after
   keeps_marked may =
       let change : List Sentence → List Sentence = λ sentences. with_status sentences at statuses.Retracted in
@@ -263,7 +262,7 @@ module _ (state : State) (senses : List (List Sense)) (model : CheckedModel) (ke
             (mean_in-set_article state.grammar state.words state.articles senses place article around.own keeping.mean around.meant
             (marked (slice_get around.article.sentences at) refl
             (subst (λ (o : Option Article). IsSomeAnd (option_and_then (λ (a : Article). slice_get a.sentences at) o)
-            (λ sentence. may_retract sentence.status ≡ true)) found may)));
+            (λ sentence. is_asserted sentence.status ≡ true)) found may)));
         known = claims ∙ sym (known_retracted state.articles senses word place at ordered lists is around);
         short = all-with_change word change (λ (s : Sentence). length s.tokens ≤ MOST_TOKENS) (short-with_status at statuses.Retracted) state.articles
             keeping.short;
@@ -274,7 +273,7 @@ module _ (state : State) (senses : List (List Sense)) (model : CheckedModel) (ke
       found : article_of state.articles word ≡ Some around.article
       found = article_at state.articles ordered word place around.article is ∙ ap Some at_place
 
-      marked : (o : Option Sentence) → slice_get around.article.sentences at ≡ o → IsSomeAnd o (λ sentence. may_retract sentence.status ≡ true)
+      marked : (o : Option Sentence) → slice_get around.article.sentences at ≡ o → IsSomeAnd o (λ sentence. is_asserted sentence.status ≡ true)
           → MeanEach state.grammar state.words
           (option_map_or (λ (s : Sentence). set around.article.sentences at (record s { status = statuses.Retracted })) o around.article.sentences)
           (meanings_in around.own)
@@ -284,16 +283,16 @@ module _ (state : State) (senses : List (List Sense)) (model : CheckedModel) (ke
           (λ m fits. retracted-fits s.status m may fits)
 
 -- a sentence that may be retracted, by the word of its article
-pub may-there : (state : State) (form : List ℕ) (at : ℕ) (word : WordId) (s : Sentence) → word_named state form ≡ Some word
-    → sentence_named state form at ≡ Some s → may_retract s.status ≡ true
-    → IsSomeAnd (sentence_at state.articles word at) (λ sentence. may_retract sentence.status ≡ true)
+pub may-there : (state : Stored) (form : List ℕ) (at : ℕ) (word : WordId) (s : Sentence) → word_named state form ≡ Some word
+    → sentence_named state form at ≡ Some s → is_asserted s.status ≡ true
+    → IsSomeAnd (sentence_at state.articles word at) (λ sentence. is_asserted sentence.status ≡ true)
 may-there state form at word s named here may =
     let there : sentence_at state.articles word at ≡ Some s = sym (ap (option_and_then (λ (w : WordId). sentence_at state.articles w at)) named) ∙ here in
-    subst (λ (o : Option Sentence). IsSomeAnd o (λ sentence. may_retract sentence.status ≡ true)) (sym there) may
+    subst (λ (o : Option Sentence). IsSomeAnd o (λ sentence. is_asserted sentence.status ≡ true)) (sym there) may
 
 -- ---- a wiki as it is seen, whose parts are kept
 
-module _ (state : State) (interpretation : Interpretation) (wiki : Holding) (seen : record { state = state; interpretation = interpretation } ≡ wiki)
+module _ (state : Stored) (interpretation : Interpretation) (wiki : Holding) (seen : record { state = state; interpretation = interpretation } ≡ wiki)
     (senses : List (List Sense)) (model : CheckedModel)
     (keeping : IsKeeping state senses model) (ordered : AreInOrder state.articles) (word : WordId) (place : ℕ) (is : IsPlaceOf wiki.state.articles word place)
   where

@@ -24,15 +24,16 @@ use Rattle.articles.specs.Articles.{AreInOrder, HasPlace, HasSentence, sentence_
 use Rattle.articles.specs.Places.{IsPlaceOf}
 use Rattle.articles.proofs.PlaceLemmas.{article_at}
 use Rattle.wiki_parts.specs.declared.meanings.Sense.{Sense}
-use Rattle.wiki_parts.specs.State.{State}
-use Rattle.wiki_parts.specs.Meanings.{Meaning, Means}
-use Rattle.wiki_parts.specs.Knowledge.{is_asserted, sentences_in, Knows, live_names, IsStatusOf, GetStatus}
+use Rattle.plain_wiki.specs.Stored.{Stored}
+use Rattle.plain_wiki.specs.Meanings.{Meaning, Means}
+use Rattle.plain_wiki.specs.Knowledge.{is_asserted, sentences_in, Knows, live_names}
+use Rattle.wiki_parts.specs.Spent.{IsStatusOf, GetStatus}
 use Rattle.wiki_parts.specs.Holding.{Holding}
 use Rattle.wiki_parts.specs.Found.{meaning_shown}
 use Rattle.wiki_parts.specs.Kept.{stated_by, known_around, IsAround, Stands, IsKeeping}
-use Rattle.wiki_parts.specs.Refusing.{may_reassert}
-use Rattle.wiki_store.specs.Step.{with_inserted}
-use Rattle.wiki_store.specs.Appending.{end_of, with_appended, SpendsAtEnd}
+use Rattle.plain_wiki.specs.Causes.{may_reassert}
+use Rattle.plain_wiki.specs.Changes.{with_inserted, end_of, with_appended}
+use Rattle.wiki_store.specs.Appending.{SpendsAtEnd}
 use Rattle.wiki_store.proofs.AroundLemmas.{around_there, mean_at}
 use Rattle.wiki_store.proofs.JudgeLemmas.{spliced, fits-standing, keeps-changed, judged_over, judged_plain, status_taken, spends_taken, all-in-at, known_in-gap, known_in-unasserted, unasserted, means-at, around_place}
 
@@ -84,7 +85,7 @@ each-ok (Err fault) P Q gives here = tt
 
 -- ---- at the end of an article
 
-pub appended-status : (old : State) (word : WordId) (at : ℕ) (given tokens : List (List ℕ)) (meaning : Meaning) (status : Status)
+pub appended-status : (old : Stored) (word : WordId) (at : ℕ) (given tokens : List (List ℕ)) (meaning : Meaning) (status : Status)
     → at ≡ end_of old.articles word → given ≡ tokens
     → Means old.grammar old.words tokens meaning → IsStatusOf (with_inserted old word at (record { tokens = given; status = Asserted })) meaning status
     → GetStatus (with_appended old word tokens Asserted) tokens status
@@ -109,7 +110,7 @@ appended-spent old word at given tokens status is same beyond red =
 
 -- ---- inside and outside
 
-module _ (inside : State) (senses : List (List Sense)) (model : CheckedModel) (now : Holding)
+module _ (inside : Stored) (senses : List (List Sense)) (model : CheckedModel) (now : Holding)
     (view : record { state = inside; interpretation = kept_interp model } ≡ now)
     (keeping : IsKeeping inside senses model) (ordered : AreInOrder inside.articles) (word : WordId) (place : ℕ) (is : IsPlaceOf now.state.articles word place)
   where

@@ -11,16 +11,15 @@ use Rattle.lexicon.specs.Words.{Listed}
 use Rattle.derivation_trees.specs.Sentences.{IsSentence}
 use Rattle.owl_eval.specs.declared.checked.CheckedModel.{CheckedModel}
 use Rattle.owl_eval.specs.Checked.{kept_interp, kept_claims}
-use Rattle.reasoner.specs.Verdicts.{IsFiniteModel}
+use Rattle.plain_wiki.specs.Knowledge.{IsFiniteModel, sentences_in, Knows}
 use Rattle.wiki_talk.specs.declared.limits.TheConstants.{MOST_SENTENCES}
 use Rattle.articles.specs.declared.sentences.Sentence.{Sentence}
 use Rattle.articles.specs.declared.article.Article.{Article}
 use Rattle.articles.specs.Articles.{is_of, article_of}
 use Rattle.wiki_parts.specs.declared.meanings.Sense.{Sense}
-use Rattle.wiki_parts.specs.State.{State}
-use Rattle.wiki_parts.specs.Meanings.{Meaning, MeansFaithfully}
-use Rattle.wiki_parts.specs.Places.{word_named, article_named}
-use Rattle.wiki_parts.specs.Knowledge.{sentences_in, Knows}
+use Rattle.plain_wiki.specs.Stored.{Stored}
+use Rattle.plain_wiki.specs.Meanings.{Meaning, MeansFaithfully}
+use Rattle.plain_wiki.specs.Places.{word_named, article_named}
 use Rattle.wiki_parts.specs.Holding.{IsStored, IsKept}
 use Rattle.wiki_parts.specs.Kept.{meanings_in, MeanEach, MeanInEach, IsKeeping}
 use Rattle.wiki_parts.proofs.KnownLemmas.{knows_from_known}
@@ -46,7 +45,7 @@ all_parts P [] ys all = (All-nil P, all)
 all_parts P (x ∷ xs) ys all = let rest = all_parts P xs ys (All-tail P x (xs ++ ys) all) in (All-cons P x xs (All-head P x (xs ++ ys) all) rest.0, rest.1)
 
 -- sentences that have their meanings are stored rightly, where they are short and whatever is meant keeps its truth
-pub stored_each : (state : State) (sentences : List Sentence) (meanings : List Meaning)
+pub stored_each : (state : Stored) (sentences : List Sentence) (meanings : List Meaning)
     → ((tokens : List (List ℕ)) → MeansFaithfully state.grammar state.words tokens) → MeanEach state.grammar state.words sentences meanings
     → All (λ sentence. length sentence.tokens ≤ MOST_TOKENS) sentences → All (IsStored state) sentences
 stored_each state [] [] faithful mean short = All-nil (IsStored state)
@@ -63,7 +62,7 @@ stored_each state (s ∷ ss) (m ∷ ms) faithful mean short =
     })
     (stored_each state ss ms faithful mean.1 (All-tail (λ (t : Sentence). length t.tokens ≤ MOST_TOKENS) s ss short))
 
-pub stored_in : (state : State) (articles : List Article) (senses : List (List Sense))
+pub stored_in : (state : Stored) (articles : List Article) (senses : List (List Sense))
     → ((tokens : List (List ℕ)) → MeansFaithfully state.grammar state.words tokens) → MeanInEach state.grammar state.words articles senses
     → All (λ sentence. length sentence.tokens ≤ MOST_TOKENS) (sentences_in articles) → All (IsStored state) (sentences_in articles)
 stored_in state [] [] faithful mean short = All-nil (IsStored state)
@@ -76,7 +75,7 @@ stored_in state (a ∷ articles) (own ∷ senses) faithful mean short =
     (stored_in state articles senses faithful mean.1 (all_parts (λ (t : Sentence). length t.tokens ≤ MOST_TOKENS) a.sentences (sentences_in articles) short).1)
 
 -- a wiki with what is kept beside its state keeps what it should
-pub is_kept : (state : State) (senses : List (List Sense)) (model : CheckedModel)
+pub is_kept : (state : Stored) (senses : List (List Sense)) (model : CheckedModel)
     → ((tokens : List (List ℕ)) → MeansFaithfully state.grammar state.words tokens) → IsKeeping state senses model
     → IsFiniteModel (kept_interp model) (kept_claims model)
     → IsKept (record { state = state; interpretation = kept_interp model })
@@ -117,7 +116,7 @@ each_there P (a ∷ articles) word article is all =
     by_test false behind there = behind there
 
 -- the sentence at a place of the article that a text names is stored rightly
-pub stored_there : (state : State) (senses : List (List Sense)) (model : CheckedModel)
+pub stored_there : (state : Stored) (senses : List (List Sense)) (model : CheckedModel)
     → ((tokens : List (List ℕ)) → MeansFaithfully state.grammar state.words tokens) → IsKeeping state senses model → (text : List ℕ) (article : Article)
     → article_named state text ≡ Some article → (at : ℕ) (sentence : Sentence) → slice_get article.sentences at ≡ Some sentence → IsStored state sentence
 stored_there state senses model faithful keeping text article named at sentence here =
@@ -131,5 +130,5 @@ stored_there state senses model faithful keeping text article named at sentence 
         (all at sentence (slice_get_within article.sentences at sentence here))
 
 -- a stored sentence has a derivation
-pub has_derivation : (state : State) (sentence : Sentence) → IsStored state sentence → IsSentence state.grammar state.words sentence.tokens
+pub has_derivation : (state : Stored) (sentence : Sentence) → IsStored state sentence → IsSentence state.grammar state.words sentence.tokens
 has_derivation state sentence stored = let least = stored.means.is_least in (least.tree, least.derives)

@@ -23,9 +23,10 @@ use Rattle.wiki_parts.specs.declared.meanings.Sense.{Sense}
 use Rattle.wiki_parts.specs.declared.meanings.Sense.TheVariants as senses
 use Rattle.wiki_parts.specs.Found.{meaning_shown}
 use Rattle.wiki_parts.specs.Holding.{Holding, FitsMeaning}
-use Rattle.wiki_parts.specs.Knowledge.{Knows, live_names, Answer}
+use Rattle.plain_wiki.specs.Knowledge.{Knows, live_names}
+use Rattle.wiki_parts.specs.Spent.{Answer}
 use Rattle.wiki_parts.specs.Kept.{meanings_in, MeanEach, MeanInEach}
-use Rattle.wiki_parts.specs.Meanings.{Means}
+use Rattle.plain_wiki.specs.Meanings.{Means}
 use Rattle.wiki_store.specs.Remembered.{AreAnswers}
 use Rattle.wiki_store.proofs.AroundLemmas.{mean_at, item}
 

@@ -20,13 +20,13 @@ use Rattle.articles.specs.declared.article.Article.{Article}
 use Rattle.articles.specs.Articles.{article_of, HasArticle}
 use Rattle.wiki_parts.specs.declared.faults.Fault.{Fault}
 use Rattle.wiki_parts.specs.declared.faults.Fault.TheVariants.{Refused, Memory}
-use Rattle.wiki_parts.specs.Faults.{IsAbsent, IsCause, IsFault}
-use Rattle.wiki_parts.specs.Knowledge.{sentences_in}
-use Rattle.wiki_parts.specs.Meanings.{Means}
-use Rattle.wiki_parts.specs.Places.{word_named, Placed, placed_from, placed_in, all_placed, IsFirstPlaced}
-use Rattle.wiki_parts.specs.Refusing.{FirstOf, NamesNoWord, IsBadReword, BreaksSentence, IsInUse, KeepsMeaning, reword_cause, uses_word}
-use Rattle.wiki_parts.specs.State.{State, IsSound}
-use Rattle.wiki_parts.specs.Words.{forms_given}
+use Rattle.plain_wiki.specs.Causes.{IsAbsent, FirstOf, NamesNoWord, IsBadReword, BreaksSentence, IsInUse, KeepsMeaning, reword_cause, uses_word}
+use Rattle.wiki_parts.specs.Faults.{IsCause, IsFault}
+use Rattle.plain_wiki.specs.Knowledge.{sentences_in}
+use Rattle.plain_wiki.specs.Meanings.{Means}
+use Rattle.plain_wiki.specs.Places.{word_named, Placed, placed_from, placed_in, all_placed, IsFirstPlaced}
+use Rattle.plain_wiki.specs.Stored.{Stored, IsSound}
+use Rattle.plain_wiki.specs.Words.{forms_given}
 use Rattle.wiki_parts.proofs.FirstLemmas.{none_stands, nothing_stands}
 use Rattle.wiki_parts.proofs.UseLemmas.{lives-article}
 use Rattle.wiki_store.specs.Rewording.{KeepsSentences, KeepsOthers, IsBroken}
@@ -147,7 +147,7 @@ each_sentence Q (a ∷ articles) all =
     All-append Q a.sentences (sentences_in articles) (placed_sentences Q a.word 0 a.sentences parts.0) (each_sentence Q articles parts.1)
 
 -- where each sentence keeps its meaning by a word's other forms, the words with them keep what the wiki has
-pub keeps_sentences : (state : State) (word : WordId) (forms : Forms) (new : Listed) → new ≡ with_forms state.words word forms
+pub keeps_sentences : (state : Stored) (word : WordId) (forms : Forms) (new : Listed) → new ≡ with_forms state.words word forms
     → All (λ placed. KeepsMeaning state.grammar state.words new placed.sentence.tokens) (all_placed state.articles) → KeepsSentences state new
 keeps_sentences state word forms new is all = record {
   numbers = ap (λ (words : Listed). map (λ (w : Word). w.id) words.live) is ∙ numbers-with_forms state.words.live word forms;
@@ -157,7 +157,7 @@ keeps_sentences state word forms new is all = record {
 }
 
 -- sentences without its old forms keep their meaning
-pub keeps_others : (state : State) → IsSound state → IsLexicon state.words → (word : WordId) (old forms : Forms) → forms_of state.words.live word ≡ Some old
+pub keeps_others : (state : Stored) → IsSound state → IsLexicon state.words → (word : WordId) (old forms : Forms) → forms_of state.words.live word ≡ Some old
     → forms_refusal (others state.words.live word) state.words.terminals forms ≡ None → (new : Listed) → new ≡ with_forms state.words word forms
     → KeepsOthers state.grammar state.words new old.texts
 keeps_others state sound lexicon word old forms of_word free new is tokens meaning unused means =
@@ -173,7 +173,7 @@ same_forms : (live : List Word) (one other : WordId) (forms old : Forms) → one
     → forms ≡ old
 same_forms live one other forms old same a b = same_Some forms old (sym a ∙ ap (forms_of live) same ∙ b)
 
-module _ (state : State) (text : List ℕ) (texts : List (List ℕ)) (word : WordId) (old : Forms) (named : word_named state text ≡ Some word)
+module _ (state : Stored) (text : List ℕ) (texts : List (List ℕ)) (word : WordId) (old : Forms) (named : word_named state text ≡ Some word)
     (of_word : forms_of state.words.live word ≡ Some old) where
   -- texts against which nothing stands
   pub no_bad_reword : reword_cause state.words word old.kind texts ≡ None → IsAbsent (IsBadReword state text texts)
@@ -204,7 +204,7 @@ module _ (state : State) (text : List ℕ) (texts : List (List ℕ)) (word : Wor
 
   -- the word is named
   pub is_named : IsAbsent (NamesNoWord state text)
-  is_named refusal none = none-some old (sym none.none ∙ ap (option_and_then (forms_of state.words.live)) named ∙ of_word)
+  is_named refusal none = none-some old (sym none.0 ∙ ap (option_and_then (forms_of state.words.live)) named ∙ of_word)
 
   -- so nothing stands against the other forms
   pub reword_free : (new : Listed) → new ≡ with_forms state.words word (forms_given old.kind texts) → reword_cause state.words word old.kind texts ≡ None
@@ -273,7 +273,7 @@ pub lives_by : (o : Option Forms) (forms : Forms) → o ≡ Some forms → IsSom
 lives_by o forms is = subst (λ (q : Option Forms). IsSome q) (sym is) refl
 
 -- a live word has an article
-pub has_article : (state : State) → IsSound state → (word : WordId) → IsSome (forms_of state.words.live word) → HasArticle state.articles word
+pub has_article : (state : Stored) → IsSound state → (word : WordId) → IsSome (forms_of state.words.live word) → HasArticle state.articles word
 has_article state sound word lives = by (article_of state.articles word) (lives-article state.articles state.words.live word sound.articles lives)
   where
     by : (o : Option Article) → IsSome o → IsSomeAnd o (λ _. Unit {0})

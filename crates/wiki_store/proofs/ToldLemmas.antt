@@ -2,26 +2,33 @@
 use Rattle.std.proofs.Common.{◌≡◌, Result, Ok, Err, IfOk, IfErr, OnErr, refl, sym, ap, subst}
 use Rattle.wiki_talk.specs.declared.replies.Reply.{Reply}
 use Rattle.wiki_talk.specs.declared.replies.Reply.TheVariants as replies
-use Rattle.wiki_talk.specs.declared.requests.Request.{Request}
 use Rattle.wiki_parts.specs.declared.faults.Fault.{Fault}
 use Rattle.wiki_parts.specs.declared.faults.Fault.TheVariants as faults
 use Rattle.wiki_parts.specs.Faults.{IsFault, Tells}
 use Rattle.wiki_parts.specs.Holding.{Holding}
-use Rattle.wiki_store.specs.Step.{Step, Refuses}
+use Rattle.wiki_talk.specs.declared.refusals.Refusal.{Refusal}
+use Rattle.plain_wiki.specs.Stored.{Stored}
+use Rattle.plain_wiki.specs.Step.{Steps}
 use Rattle.wiki_store.specs.Unchanged.{KeepsInterpretation}
 
 -- what is told is a step
-pub told-step : {E : Type 0} (old new : Holding) (request given : Request) → request ≡ given → (done : Result Reply Fault) (told : Result Reply E)
-    → IfOk told (Tells done)
-    → IfOk done (λ reply. Step old.state given reply new.state) → IfErr done (IsFault (Refuses old.state given)) → OnErr done (new ≡ old)
-    → IfOk told (λ reply. Step old.state request reply new.state)
-told-step old new request given is done (Err none) told step refused kept = tt
-told-step old new request given is (Ok made) (Ok reply) told step refused kept =
-    subst (λ (r : Request). Step old.state r reply new.state) (sym is) (subst (λ (r : Reply). Step old.state given r new.state) (sym told) step)
-told-step old new request given is (Err fault) (Ok reply) told step refused kept =
-    subst (λ (r : Request). Step old.state r reply new.state) (sym is)
-    (subst (λ (r : Reply). Step old.state given r new.state) (sym told.2)
-    (subst (IsFault (Refuses old.state given)) told.1 refused, ap (λ (h : Holding). h.state) kept))
+pub told-step : {E Q : Type 0} (refuses : Q → Refusal → Type 0) (does : Q → Reply → Stored → Type 0) (old new : Holding) (asked given : Q) → asked ≡ given
+    → (done : Result Reply Fault) (told : Result Reply E) → IfOk told (Tells done)
+    → IfOk done (λ reply. Steps (refuses given) (does given) old.state reply new.state) → IfErr done (IsFault (refuses given)) → OnErr done (new ≡ old)
+    → IfOk told (λ reply. Steps (refuses asked) (does asked) old.state reply new.state)
+told-step refuses does old new asked given is done (Err none) told step refused kept = tt
+told-step {E} {Q} refuses does old new asked given is (Ok made) (Ok reply) told step refused kept =
+    subst (λ (q : Q). Steps (refuses q) (does q) old.state reply new.state) (sym is)
+    (subst (λ (r : Reply). Steps (refuses given) (does given) old.state r new.state) (sym told) step)
+told-step {E} {Q} refuses does old new asked given is (Err fault) (Ok reply) told step refused kept =
+    subst (λ (q : Q). Steps (refuses q) (does q) old.state reply new.state) (sym is)
+    (subst (λ (r : Reply). Steps (refuses given) (does given) old.state r new.state) (sym told.2)
+    (subst (IsFault (refuses given)) told.1 refused, ap (λ (h : Holding). h.state) kept))
+
+-- what nothing is done to stays as it is
+pub stays_itself : {X E : Type 0} (it : Holding) (done : Result X E) → OnErr done (it ≡ it)
+stays_itself it (Ok made) = tt
+stays_itself it (Err fault) = refl
 
 -- what stays where a request isn't done stays where nothing is told
 pub told-keeps : {E : Type 0} (P : Type 0) (done : Result Reply Fault) (told : Result Reply E) → OnErr told (done ≡ Err faults.Memory) → OnErr done P

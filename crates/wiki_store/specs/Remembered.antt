@@ -6,7 +6,8 @@ use Rattle.logic_terms.specs.Interpretation.{element_of}
 use Rattle.logic_terms.specs.Reading.{IsIn}
 use Rattle.logic_terms.specs.Shown.{concept_of}
 use Rattle.wiki_parts.specs.Holding.{Holding}
-use Rattle.wiki_parts.specs.Knowledge.{Knows, live_names, Answer}
+use Rattle.plain_wiki.specs.Knowledge.{Knows, live_names}
+use Rattle.wiki_parts.specs.Spent.{Answer}
 use Rattle.wiki_store.specs.declared.remembered.Row.{Row}
 
 -- these names answer the question for the class in the wiki as it is, and those that are in doubt are in it in the kept interpretation

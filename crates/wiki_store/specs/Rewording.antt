@@ -6,23 +6,23 @@ use Rattle.wiki_base.specs.declared.numbers.Place.{Place}
 use Rattle.codeco_terms.specs.GrammarParts.{GrammarParts}
 use Rattle.lexicon.specs.declared.kinds.Forms.{Forms}
 use Rattle.lexicon.specs.Words.{Listed, is_among, forms_of, without_word}
-use Rattle.wiki_parts.specs.State.{State}
+use Rattle.plain_wiki.specs.Stored.{Stored}
 use Rattle.wiki_talk.specs.declared.refusals.Refusal.{Refusal}
 use Rattle.wiki_talk.specs.declared.refusals.Refusal.TheVariants.{Breaks}
-use Rattle.wiki_parts.specs.Places.{Placed, all_placed, told_place, IsFirstPlaced}
-use Rattle.wiki_parts.specs.Meanings.{Meaning, Means}
-use Rattle.wiki_parts.specs.Knowledge.{sentences_in}
-use Rattle.wiki_parts.specs.Refusing.{KeepsMeaning, uses_word, TellsPlace}
+use Rattle.plain_wiki.specs.Places.{Placed, all_placed, told_place, IsFirstPlaced}
+use Rattle.plain_wiki.specs.Meanings.{Meaning, Means}
+use Rattle.plain_wiki.specs.Knowledge.{sentences_in}
+use Rattle.plain_wiki.specs.Causes.{KeepsMeaning, uses_word, TellsPlace}
 
 -- the words have the numbers of the wiki's words, and each sentence keeps its meaning by them
-pub record KeepsSentences (state : State) (new : Listed) : Type 0 where
+pub record KeepsSentences (state : Stored) (new : Listed) : Type 0 where
   pub numbers : map (λ word. word.id) new.live ≡ map (λ word. word.id) state.words.live
   pub terminals : new.terminals ≡ state.words.terminals
   pub last : new.last ≡ state.words.last
   pub keep : All (λ sentence. KeepsMeaning state.grammar state.words new sentence.tokens) (sentences_in state.articles)
 
 -- the words are those of the wiki but for one that no sentence needs
-pub record IsGone (state : State) (word : WordId) (new : Listed) : Type 0 where
+pub record IsGone (state : Stored) (word : WordId) (new : Listed) : Type 0 where
   pub forms : Forms
   pub of_word : forms_of state.words.live word ≡ Some forms
   pub unused : find (uses_word word forms) (all_placed state.articles) ≡ None
@@ -46,7 +46,7 @@ pub record FindsPlace (P : Placed → Type 0) (sentences : List Placed) (place :
   pub finds : Finds P sentences found
 
 -- the first sentence that doesn't keep its meaning by the other words is told
-pub record IsBroken (state : State) (new : Listed) (refusal : Refusal) : Type 0 where
+pub record IsBroken (state : Stored) (new : Listed) (refusal : Refusal) : Type 0 where
   pub first : Placed
   pub breaks : IsFirstPlaced (λ placed. ¬ KeepsMeaning state.grammar state.words new placed.sentence.tokens) (all_placed state.articles) first
   pub told : TellsPlace state Breaks first.word first.place refusal

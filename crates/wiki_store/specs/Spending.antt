@@ -12,23 +12,25 @@ use Rattle.wiki_talk.specs.declared.replies.Reply.{Reply}
 use Rattle.wiki_talk.specs.declared.replies.Reply.TheVariants as replies
 use Rattle.wiki_talk.specs.declared.requests.Request.{Request}
 use Rattle.wiki_talk.specs.declared.requests.Request.TheVariants as requests
+use Rattle.wiki_talk.specs.declared.requests.ArticleRequest.TheVariants as on_article
 use Rattle.wiki_talk.specs.Statuses.{is_question}
 use Rattle.articles.specs.declared.sentences.Sentence.{Sentence}
-use Rattle.wiki_parts.specs.State.{State}
-use Rattle.wiki_parts.specs.Places.{word_named, article_named}
-use Rattle.wiki_parts.specs.Meanings.{asking, Means}
-use Rattle.wiki_parts.specs.Knowledge.{Knows}
-use Rattle.wiki_parts.specs.Telling.{spelled}
-use Rattle.wiki_store.specs.Step.{with_inserted, with_replaced, with_marked, sentence_with, place_for}
+use Rattle.plain_wiki.specs.Stored.{Stored}
+use Rattle.plain_wiki.specs.Places.{word_named, article_named}
+use Rattle.plain_wiki.specs.Meanings.{asking, Means}
+use Rattle.plain_wiki.specs.Knowledge.{Knows}
+use Rattle.plain_wiki.specs.Telling.{spelled}
+use Rattle.plain_wiki.specs.Changes.{with_inserted, with_replaced, with_marked, sentence_with, place_for}
 use Rattle.wiki_parts.specs.Holding.{Holding}
 
 -- the wiki in which the sentence of a request is taken as asserted, for the requests that judge one
-abbrev pub taken_by : State → Request → Option State
-taken_by old (requests.Add article given text) =
+abbrev pub taken_by : Stored → Request → Option Stored
+taken_by old (requests.OnArticle article (on_article.Add given text)) =
     option_and_then (λ word. option_map (λ place. with_inserted old word place (sentence_with old text Asserted)) (place_for old article given))
     (word_named old article)
-taken_by old (requests.Edit article place text) = option_map (λ word. with_replaced old word place (sentence_with old text Asserted)) (word_named old article)
-taken_by old (requests.Reassert article place) = option_map (λ word. with_marked old word place Asserted) (word_named old article)
+taken_by old (requests.OnArticle article (on_article.Edit place text)) =
+    option_map (λ word. with_replaced old word place (sentence_with old text Asserted)) (word_named old article)
+taken_by old (requests.OnArticle article (on_article.Reassert place)) = option_map (λ word. with_marked old word place Asserted) (word_named old article)
 taken_by old request = None
 
 -- the status that a reply tells of a sentence that was judged
@@ -58,6 +60,6 @@ KeptHasUnknown old sentence view = MatchBool (is_question sentence.status) (Kept
 
 -- so is each question of an article that is told
 abbrev pub KeptHasEachUnknown : Holding → Request → Reply → Type 0
-KeptHasEachUnknown old (requests.Read text) (replies.Read form revision views) =
+KeptHasEachUnknown old (requests.OnArticle text on_article.Read) (replies.Read form revision views) =
     IfSome (article_named old.state text) (λ article. AllZip (KeptHasUnknown old) article.sentences views)
 KeptHasEachUnknown old request reply = Unit {0}

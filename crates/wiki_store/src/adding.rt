@@ -9,15 +9,19 @@ ghost use Rattle.logic_terms.specs.Reading.{IsModel};
 ghost use Rattle.wiki_talk.specs.declared.limits.TheConstants.{MOST_SENTENCES};
 ghost use Rattle.articles.specs.Articles.{CanChange, HasPlace, with_change};
 ghost use Rattle.wiki_parts.specs.declared.meanings.Sense.{Sense as TheSense};
-ghost use Rattle.wiki_parts.specs.Faults.{IsFault, IsAbsent};
+ghost use Rattle.wiki_parts.specs.Faults.{IsFault};
+ghost use Rattle.plain_wiki.specs.Causes.{IsAbsent};
 ghost use Rattle.wiki_parts.specs.Found.{meaning_shown};
-ghost use Rattle.wiki_parts.specs.Knowledge.{IsStatusOf, Knows, sentences_in};
-ghost use Rattle.wiki_parts.specs.Meanings.{Means};
-ghost use Rattle.wiki_parts.specs.Parsing.{tokens_of};
-ghost use Rattle.wiki_parts.specs.Places.{word_named};
+ghost use Rattle.wiki_parts.specs.Spent.{IsStatusOf};
+ghost use Rattle.plain_wiki.specs.Knowledge.{Knows, sentences_in};
+ghost use Rattle.plain_wiki.specs.Meanings.{Means};
+ghost use Rattle.plain_wiki.specs.Parsing.{tokens_of};
+ghost use Rattle.plain_wiki.specs.Places.{word_named};
 ghost use Rattle.wiki_store.specs.Settled.{IsTrueIn};
 ghost use Rattle.wiki_store.specs.Spending.{SpendsBeyondKept};
-ghost use Rattle.wiki_store.specs.Step.{Step, Refuses, place_for, with_inserted};
+ghost use Rattle.wiki_store.specs.Step.{StepsOnArticle};
+ghost use Rattle.plain_wiki.specs.Step.{RefusesOnArticle};
+ghost use Rattle.plain_wiki.specs.Changes.{place_for, with_inserted};
 ghost use Rattle.wiki_store.specs.Unchanged.{KeepsInterpretation};
 
 use crate::base::Base;
@@ -27,7 +31,7 @@ use articles::{Articles, Sentence};
 use derivation_trees::show;
 use wiki_base::{Memory, Text8, Tokens, WordId};
 use wiki_parts::{Fault, Sense, Senses};
-use wiki_talk::{Reply, Request, Status};
+use wiki_talk::{ArticleRequest, Reply, Request, Status};
 
 // A sentence that is to be stored: where, its tokens and what they mean.
 #[derive(Drop)]
@@ -46,10 +50,10 @@ impl Base {
         given: Option<u32>,
         text: &Text8,
     ) -> Result<Reply, Fault>
-        ensures step { IfOk result (λ reply. Step self.old.state (Request.Add form.now given text.now) reply self.new.state) }
+        ensures step { IfOk result (λ reply. StepsOnArticle self.old.state form.now (ArticleRequest.Add given text.now) reply self.new.state) }
         ensures interpretation { IfOk result (λ reply. KeepsInterpretation self.old reply self.new) }
-        ensures spent { IfOk result (SpendsBeyondKept self.old (Request.Add form.now given text.now)) }
-        ensures refused { IfErr result (IsFault (Refuses self.old.state (Request.Add form.now given text.now))) }
+        ensures spent { IfOk result (SpendsBeyondKept self.old (Request.OnArticle form.now (ArticleRequest.Add given text.now))) }
+        ensures refused { IfErr result (IsFault (RefusesOnArticle self.old.state form.now (ArticleRequest.Add given text.now))) }
         ensures kept { OnErr result (self.new ≡ self.old) }
     {
         let fresh = self.fresh(form, given, text)?;
@@ -75,8 +79,8 @@ impl Base {
         ensures tokens { IfOk result (λ fresh. fresh.tokens ≡ tokens_of self.now.state text.now) }
         ensures few { IfOk result (λ fresh. length fresh.tokens ≤ MOST_TOKENS) }
         ensures means { IfOk result (λ fresh. Means self.now.state.grammar self.now.state.words fresh.tokens (meaning_shown fresh.sense)) }
-        ensures free { OnOk result (IsAbsent (Refuses self.now.state (Request.Add form.now given text.now))) }
-        ensures refused { IfErr result (IsFault (Refuses self.now.state (Request.Add form.now given text.now))) }
+        ensures free { OnOk result (IsAbsent (RefusesOnArticle self.now.state form.now (ArticleRequest.Add given text.now))) }
+        ensures refused { IfErr result (IsFault (RefusesOnArticle self.now.state form.now (ArticleRequest.Add given text.now))) }
     {
         let word = self.named(form)?;
         let article = self.article(word);

@@ -5,9 +5,11 @@ ghost use Rattle.derivation_trees.specs.Sentences.{IsSentence};
 ghost use Rattle.wiki_talk.specs.declared.limits.TheConstants.{MOST_SENTENCES};
 ghost use Rattle.articles.specs.Articles.{CanChange, HasArticle, HasPlace};
 ghost use Rattle.wiki_parts.specs.Found.{meaning_shown};
-ghost use Rattle.wiki_parts.specs.Knowledge.{sentences_in, GetStatus};
-ghost use Rattle.wiki_parts.specs.Meanings.{Means};
-ghost use Rattle.wiki_store.specs.Appending.{end_of, with_appended, SpendsAtEnd};
+ghost use Rattle.plain_wiki.specs.Knowledge.{sentences_in};
+ghost use Rattle.wiki_parts.specs.Spent.{GetStatus};
+ghost use Rattle.plain_wiki.specs.Meanings.{Means};
+ghost use Rattle.plain_wiki.specs.Changes.{end_of, with_appended};
+ghost use Rattle.wiki_store.specs.Appending.{SpendsAtEnd};
 
 use crate::adding::Fresh;
 use crate::base::Base;

@@ -1,9 +1,9 @@
 // The words and sentences, and what is done to them by a request.
-ghost use Rattle.std.specs.Prelude.{◌≡◌, ◌≤◌, ◌<◌, ◌+◌, ◌++◌, ◌∷◌, [], ℕ, List, None, Err, IfErr, OnOk, length, find, All, IsTrue, IsSome, IfOk, IfSome, IfNone, OnErr, Some, option_copied, option_map};
+ghost use Rattle.std.specs.Prelude.{◌≡◌, ◌≤◌, ◌<◌, ◌+◌, ◌++◌, ◌∷◌, [], None, Err, IfErr, OnOk, length, find, All, IsTrue, IsSome, IfOk, IfSome, IfNone, OnErr, Some, option_copied, option_map};
 ghost use Rattle.wiki_base.specs.declared.tokens.TheConstants.{MOST_TOKENS};
 ghost use Rattle.lexicon.specs.declared.words.TheConstants.{LAST_NUMBER};
 ghost use Rattle.wiki_talk.specs.declared.refusals.Refusal.{Refusal as TheRefusal};
-ghost use Rattle.wiki_parts.specs.Words.{word_refusal, forms_given};
+ghost use Rattle.plain_wiki.specs.Words.{word_refusal, forms_given};
 ghost use Rattle.wiki_parts.specs.Faults.{IsCause, Tells};
 ghost use Rattle.articles.specs.Articles.{new_article};
 ghost use Rattle.lexicon.specs.Words.{with_word, add_refusal};
@@ -11,7 +11,7 @@ ghost use Rattle.lexicon.specs.Words.{with_word, add_refusal};
 use crate::remembered::Remembered;
 use articles::Articles;
 use codeco_checked::CheckedGrammar;
-use derivations::{Cut, cut};
+use derivations::Skeleton;
 use lexicon::{Forms, Kind, Lexicon, MOST_WORDS};
 use lists::Copied;
 use owl_eval::CheckedModel;
@@ -20,9 +20,9 @@ use std::marker::Model;
 use wiki_base::{Memory, Place, Text8, Tokens, WordId};
 use wiki_parts::{
     Fault, Senses, add_word, first_model, first_use, is_faithful, least, no_sentence, told_code,
-    told_text, told_word, told_words, too_many_tokens,
+    told_text, told_word, told_words,
 };
-use wiki_talk::{Refusal, Reply, Request};
+use wiki_talk::{ArticleRequest, Refusal, Reply, Request, WikiRequest, WordRequest};
 
 // The words and sentences of a wiki. They are seen as its state, which is the grammar, the budget of a search, the live words and their articles, and the
 // interpretation that it keeps.
@@ -64,17 +64,19 @@ impl Base {
     ghost use Rattle.wiki_parts.specs.Holding.{first_holding, IsKept};
     ghost use Rattle.wiki_store.specs.Remembered.{IsRemembered};
     ghost use Rattle.wiki_store.specs.Spending.{SpendsBeyondKept, KeptHasEachUnknown};
-    ghost use Rattle.wiki_parts.specs.Parsing.{tokens_of};
-    ghost use Rattle.wiki_store.specs.Step.{Step, Refuses, asks_store, only_tells};
+    ghost use Rattle.wiki_store.specs.Step.{StepsOnWiki, StepsOnWord, StepsOnArticle};
+    ghost use Rattle.plain_wiki.specs.Step.{RefusesOnWiki};
     ghost use Rattle.wiki_store.specs.Unchanged.{KeepsInterpretation};
     ghost use Rattle.wiki_parts.specs.Faults.{IsFault};
     ghost use Rattle.articles.specs.Articles.{HasArticle};
     ghost use Rattle.articles.specs.Places.{IsPlaceOf};
     ghost use Rattle.lexicon.specs.declared.kinds.Forms.{Forms as TheForms};
     ghost use Rattle.lexicon.specs.Words.{forms_of};
-    ghost use Rattle.wiki_parts.specs.Places.{all_placed, told_place};
-    ghost use Rattle.wiki_parts.specs.Refusing.{uses_word, TellsPlace};
-    ghost use Rattle.wiki_parts.specs.Words.{word_with};
+    ghost use Rattle.plain_wiki.specs.Places.{all_placed, told_place};
+    ghost use Rattle.plain_wiki.specs.Causes.{uses_word, IsAbsent, HasNoDerivation, TellsPlace};
+    ghost use Rattle.plain_wiki.specs.Parsing.{tokens_of};
+    ghost use Rattle.derivation_trees.specs.Skeletons.{IsLeastSkeleton};
+    ghost use Rattle.plain_wiki.specs.Words.{word_with};
 
     // A base without words, over a grammar in which each rule has a label. A search may take `budget` steps.
     pub(crate) fn new(alloc: Global, grammar: CheckedGrammar, budget: u64) -> Result<Base, Memory>
@@ -104,79 +106,37 @@ impl Base {
         let _ = self.kept.interp();
     }
 
-    // Does one request that changes nothing, or refuses it. The answers that it finds are remembered.
-    pub(crate) fn tell(
-        &self,
+    // Does what is asked of an article, or refuses it. The answers that are found are remembered until the base changes.
+    pub(crate) fn on_article(
+        &mut self,
         remembered: &mut Remembered,
-        request: &Request,
+        form: &Text8,
+        asked: &ArticleRequest,
     ) -> Result<Reply, Memory>
-        requires tells { IsTrue (only_tells request.now) }
-        requires remembered { All (IsRemembered self.now) remembered.old.rows }
-        ensures step { IfOk result (λ reply. Step self.now.state request.now reply self.now.state) }
-        ensures unknown { IfOk result (KeptHasEachUnknown self.now request.now) }
-        ensures remembered { All (IsRemembered self.now) remembered.new.rows }
-    {
-        match request {
-            Request::Find { word } => self.find(word),
-            Request::Words => self.words(),
-            Request::Parse { text } => self.parse(text),
-            Request::Read { article } => told(self.read(remembered, article)),
-            Request::Axioms { article, at } => told(self.axioms(article, *at)),
-            Request::Word { .. }
-            | Request::Reword { .. }
-            | Request::Unword { .. }
-            | Request::Add { .. }
-            | Request::Edit { .. }
-            | Request::Remove { .. }
-            | Request::Retract { .. }
-            | Request::Reassert { .. }
-            | Request::Begin { .. }
-            | Request::Put { .. }
-            | Request::Back { .. }
-            | Request::Menu { .. }
-            | Request::Commit { .. }
-            | Request::Refresh { .. }
-            | Request::Drop { .. } => unreachable!(),
-        }
-    }
-
-    // Does one request of the others, or refuses it.
-    pub(crate) fn change(&mut self, request: &Request) -> Result<Reply, Memory>
-        requires asks { IsTrue (asks_store request.now) }
-        requires changes { ¬ IsTrue (only_tells request.now) }
-        ensures step { IfOk result (λ reply. Step self.old.state request.now reply self.new.state) }
-        ensures spent { IfOk result (SpendsBeyondKept self.old request.now) }
-        ensures unknown { IfOk result (KeptHasEachUnknown self.old request.now) }
+        requires { All (IsRemembered self.old) remembered.old.rows }
+        ensures step { IfOk result (λ reply. StepsOnArticle self.old.state form.now asked.now reply self.new.state) }
+        ensures spent { IfOk result (SpendsBeyondKept self.old (Request.OnArticle form.now asked.now)) }
+        ensures unknown { IfOk result (KeptHasEachUnknown self.old (Request.OnArticle form.now asked.now)) }
         ensures interpretation { IfOk result (λ reply. KeepsInterpretation self.old reply self.new) }
         ensures memory { OnErr result (self.new ≡ self.old) }
+        ensures remembered { All (IsRemembered self.new) remembered.new.rows }
     {
-        match request {
-            Request::Word { kind, forms } => self.add(*kind, forms.as_slice()),
-            Request::Reword { word, forms } => told(self.reword(word, forms.as_slice())),
-            Request::Unword { word } => told(self.unword(word)),
-            Request::Add { article, at, text } => told(self.add_sentence(article, *at, text)),
-            Request::Edit { article, at, text } => told(self.edit(article, *at, text)),
-            Request::Remove { article, at } => told(self.remove(article, *at)),
-            Request::Retract { article, at } => told(self.retract(article, *at)),
-            Request::Reassert { article, at } => told(self.reassert(article, *at)),
-            Request::Find { .. }
-            | Request::Words
-            | Request::Parse { .. }
-            | Request::Read { .. }
-            | Request::Axioms { .. }
-            | Request::Begin { .. }
-            | Request::Put { .. }
-            | Request::Back { .. }
-            | Request::Menu { .. }
-            | Request::Commit { .. }
-            | Request::Refresh { .. }
-            | Request::Drop { .. } => unreachable!(),
+        match asked {
+            ArticleRequest::Add { at, text } => {
+                forgets(remembered, self.add_sentence(form, *at, text))
+            }
+            ArticleRequest::Edit { at, text } => forgets(remembered, self.edit(form, *at, text)),
+            ArticleRequest::Remove { at } => forgets(remembered, self.remove(form, *at)),
+            ArticleRequest::Retract { at } => forgets(remembered, self.retract(form, *at)),
+            ArticleRequest::Reassert { at } => forgets(remembered, self.reassert(form, *at)),
+            ArticleRequest::Read => told(self.read(remembered, form)),
+            ArticleRequest::Axioms { at } => told(self.axioms(form, *at)),
         }
     }
 
     // Adds a word, with an empty article.
-    fn add(&mut self, kind: Kind, forms: &[Text8]) -> Result<Reply, Memory>
-        ensures step { IfOk result (λ reply. Step self.old.state (Request.Word kind forms.now) reply self.new.state) }
+    pub(crate) fn add(&mut self, kind: Kind, forms: &[Text8]) -> Result<Reply, Memory>
+        ensures step { IfOk result (λ reply. StepsOnWiki self.old.state (WikiRequest.Word kind forms.now) reply self.new.state) }
         ensures interpretation { IfOk result (λ reply. KeepsInterpretation self.old reply self.new) }
         ensures memory { OnErr result (self.new ≡ self.old) }
     {
@@ -250,8 +210,8 @@ impl Base {
     }
 
     // Tells the word that has this form.
-    fn find(&self, word: &Text8) -> Result<Reply, Memory>
-        ensures { IfOk result (λ reply. Step self.now.state (Request.Find word.now) reply self.now.state) }
+    pub(crate) fn find(&self, word: &Text8) -> Result<Reply, Memory>
+        ensures { IfOk result (λ reply. StepsOnWord self.now.state word.now WordRequest.Find reply self.now.state) }
     {
         match self.found(word.as_str()) {
             Some(forms) => Ok(Reply::Find {
@@ -269,8 +229,8 @@ impl Base {
     }
 
     // Tells all words.
-    fn words(&self) -> Result<Reply, Memory>
-        ensures { IfOk result (λ reply. Step self.now.state Request.Words reply self.now.state) }
+    pub(crate) fn words(&self) -> Result<Reply, Memory>
+        ensures { IfOk result (λ reply. StepsOnWiki self.now.state WikiRequest.Words reply self.now.state) }
     {
         Ok(Reply::Words {
             words: told_words(self.alloc, &self.lexicon)?,
@@ -278,26 +238,28 @@ impl Base {
     }
 
     // Tells the code of a text.
-    fn parse(&self, text: &Text8) -> Result<Reply, Memory>
-        ensures { IfOk result (λ reply. Step self.now.state (Request.Parse text.now) reply self.now.state) }
+    pub(crate) fn parse(&self, text: &Text8) -> Result<Reply, Fault>
+        ensures step { IfOk result (λ reply. StepsOnWiki self.now.state (WikiRequest.Parse text.now) reply self.now.state) }
+        ensures refused { IfErr result (IsFault (RefusesOnWiki self.now.state (WikiRequest.Parse text.now))) }
     {
-        match cut(self.alloc, self.grammar.grammar(), text.as_str())? {
-            Cut::TooMany => Ok(Reply::Refused(too_many_tokens())),
-            Cut::Tokens(tokens) => self.parse_tokens(&tokens),
-        }
+        let tokens = self.tokens(text)?;
+        let least = self.skeleton(text, &tokens)?;
+        Ok(Reply::Parse {
+            code: told_code(self.alloc, &least)?,
+        })
     }
 
-    // Tells the code of tokens.
-    fn parse_tokens(&self, tokens: &Tokens) -> Result<Reply, Memory>
-        requires { length tokens.now ≤ MOST_TOKENS }
-        ensures { IfOk result (λ reply. (text : List ℕ) → tokens_of self.now.state text ≡ tokens.now
-            → Step self.now.state (Request.Parse text) reply self.now.state) }
+    // The least skeleton of the tokens of a text.
+    fn skeleton(&self, text: &Text8, tokens: &Tokens) -> Result<Skeleton, Fault>
+        requires tokens { tokens.now ≡ tokens_of self.now.state text.now }
+        requires few { length tokens.now ≤ MOST_TOKENS }
+        ensures least { IfOk result (IsLeastSkeleton self.now.state.grammar self.now.state.words (tokens_of self.now.state text.now)) }
+        ensures absent { OnOk result (IsAbsent (HasNoDerivation self.now.state text.now)) }
+        ensures refused { IfErr result (IsFault (HasNoDerivation self.now.state text.now)) }
     {
         match least(self.alloc, &self.grammar, &self.lexicon, tokens)? {
-            Some(least) => Ok(Reply::Parse {
-                code: told_code(self.alloc, &least)?,
-            }),
-            None => Ok(Reply::Refused(no_sentence(
+            Some(least) => Ok(least),
+            None => Err(Fault::Refused(no_sentence(
                 self.alloc,
                 &self.grammar,
                 &self.lexicon,
@@ -335,8 +297,24 @@ fn enter_word(
     }
 }
 
+// The reply to a request that is done or refused. Where it is done, the answers that were found are forgotten.
+fn forgets(remembered: &mut Remembered, done: Result<Reply, Fault>) -> Result<Reply, Memory>
+    ensures told { IfOk result (λ reply. Tells done reply) }
+    ensures memory { OnErr result (done ≡ Err Fault.Memory) }
+    ensures forgotten { OnOk done (remembered.new.rows ≡ []) }
+    ensures kept { OnErr done (remembered.new.rows ≡ remembered.old.rows) }
+{
+    match done {
+        Ok(reply) => {
+            remembered.clear();
+            Ok(reply)
+        }
+        Err(fault) => refused(fault),
+    }
+}
+
 // The reply to a request that is done or refused.
-fn told(done: Result<Reply, Fault>) -> Result<Reply, Memory>
+pub(crate) fn told(done: Result<Reply, Fault>) -> Result<Reply, Memory>
     ensures told { IfOk result (λ reply. Tells done reply) }
     ensures memory { OnErr result (done ≡ Err Fault.Memory) }
 {

@@ -3,8 +3,8 @@ ghost use Rattle.std.specs.Prelude.{◌≡◌, ◌≤◌, ◌<◌, length, unwra
 ghost use Rattle.wiki_talk.specs.declared.limits.TheConstants.{MOST_SENTENCES as most_sentences};
 ghost use Rattle.wiki_base.specs.declared.tokens.TheConstants.{MOST_TOKENS};
 ghost use Rattle.lexicon.specs.declared.words.TheConstants.{LAST_NUMBER as the_last};
-ghost use Rattle.wiki_parts.specs.Refusing.{may_retract};
-ghost use Rattle.wiki_parts.specs.Words.{full_at};
+ghost use Rattle.plain_wiki.specs.Knowledge.{is_asserted};
+ghost use Rattle.plain_wiki.specs.Words.{full_at};
 
 use crate::base::Base;
 use articles::{Article, Sentence};
@@ -18,14 +18,16 @@ use wiki_talk::{Limit, MOST_SENTENCES, Refusal, Status};
 impl Base {
     ghost use Rattle.lexicon.specs.Words.{IsLexicon, forms_of};
     ghost use Rattle.articles.specs.Articles.{article_of};
-    ghost use Rattle.wiki_parts.specs.Faults.{IsFault, IsAbsent};
-    ghost use Rattle.wiki_parts.specs.Places.{word_named, article_named, sentence_named};
-    ghost use Rattle.wiki_parts.specs.Refusing.{NamesNoWord, HasNoSentenceAt, IsPastEnd, IsFullOfSentences, HasTooManyTokens, IsAtLastRevision, HasNoDerivation, HasBadStatus, may_retract};
+    ghost use Rattle.wiki_parts.specs.Faults.{IsFault};
+    ghost use Rattle.plain_wiki.specs.Causes.{IsAbsent};
+    ghost use Rattle.plain_wiki.specs.Places.{word_named, article_named, sentence_named};
+    ghost use Rattle.plain_wiki.specs.Causes.{NamesNoWord, HasNoSentenceAt, IsPastEnd, IsFullOfSentences, HasTooManyTokens, IsAtLastRevision, HasNoDerivation, HasBadStatus};
+    ghost use Rattle.plain_wiki.specs.Knowledge.{is_asserted};
     ghost use Rattle.wiki_parts.specs.Found.{meaning_shown};
     ghost use Rattle.wiki_parts.specs.Holding.{IsStored};
-    ghost use Rattle.wiki_parts.specs.Knowledge.{sentences_in};
-    ghost use Rattle.wiki_parts.specs.Meanings.{Means};
-    ghost use Rattle.wiki_parts.specs.Parsing.{tokens_of};
+    ghost use Rattle.plain_wiki.specs.Knowledge.{sentences_in};
+    ghost use Rattle.plain_wiki.specs.Meanings.{Means};
+    ghost use Rattle.plain_wiki.specs.Parsing.{tokens_of};
 
     // The live word that has the form.
     pub(crate) fn named(&self, form: &Text8) -> Result<WordId, Fault>
@@ -172,9 +174,9 @@ impl Base {
         sentence: &Sentence,
     ) -> Result<(), Fault>
         requires { sentence_named self.now.state form.now at ≡ Some sentence.now }
-        ensures may { OnOk result (may_retract sentence.now.status ≡ true) }
-        ensures absent { OnOk result (IsAbsent (HasBadStatus self.now.state may_retract form.now at)) }
-        ensures refused { IfErr result (IsFault (HasBadStatus self.now.state may_retract form.now at)) }
+        ensures may { OnOk result (is_asserted sentence.now.status ≡ true) }
+        ensures absent { OnOk result (IsAbsent (HasBadStatus self.now.state is_asserted form.now at)) }
+        ensures refused { IfErr result (IsFault (HasBadStatus self.now.state is_asserted form.now at)) }
     {
         if may_retract(sentence.status) {
             Ok(())
@@ -187,7 +189,7 @@ impl Base {
 }
 
 fn may_retract(status: Status) -> bool
-    ensures { result ≡ may_retract status }
+    ensures { result ≡ is_asserted status }
 {
     matches!(status, Status::Asserted)
 }

@@ -5,16 +5,20 @@ ghost use Rattle.logic_terms.specs.Concept.{Claim};
 ghost use Rattle.logic_terms.specs.Reading.{IsModel};
 ghost use Rattle.articles.specs.Articles.{CanChange, HasSentence, sentence_at};
 ghost use Rattle.articles.specs.declared.sentences.Sentence.{Sentence as TheSentence};
-ghost use Rattle.wiki_parts.specs.Faults.{IsFault, IsAbsent};
+ghost use Rattle.wiki_parts.specs.Faults.{IsFault};
+ghost use Rattle.plain_wiki.specs.Causes.{IsAbsent};
 ghost use Rattle.wiki_parts.specs.Found.{meaning_shown};
-ghost use Rattle.wiki_parts.specs.Knowledge.{IsStatusOf, GetStatus, Knows};
-ghost use Rattle.wiki_parts.specs.Meanings.{Means};
-ghost use Rattle.wiki_parts.specs.Parsing.{tokens_of};
-ghost use Rattle.wiki_parts.specs.Places.{word_named, sentence_named};
-ghost use Rattle.wiki_parts.specs.Refusing.{HasBadStatus, may_reassert};
+ghost use Rattle.wiki_parts.specs.Spent.{IsStatusOf, GetStatus};
+ghost use Rattle.plain_wiki.specs.Knowledge.{Knows};
+ghost use Rattle.plain_wiki.specs.Meanings.{Means};
+ghost use Rattle.plain_wiki.specs.Parsing.{tokens_of};
+ghost use Rattle.plain_wiki.specs.Places.{word_named, sentence_named};
+ghost use Rattle.plain_wiki.specs.Causes.{HasBadStatus, may_reassert};
 ghost use Rattle.wiki_store.specs.Settled.{IsTrueIn};
 ghost use Rattle.wiki_store.specs.Spending.{SpendsBeyondKept};
-ghost use Rattle.wiki_store.specs.Step.{Step, Refuses, with_replaced, with_marked};
+ghost use Rattle.wiki_store.specs.Step.{StepsOnArticle};
+ghost use Rattle.plain_wiki.specs.Step.{RefusesOnArticle};
+ghost use Rattle.plain_wiki.specs.Changes.{with_replaced, with_marked};
 ghost use Rattle.wiki_store.specs.Unchanged.{KeepsInterpretation};
 
 use crate::adding::Fresh;
@@ -25,15 +29,15 @@ use crate::standing::standing;
 use articles::Sentence;
 use wiki_base::{Memory, Text8, WordId};
 use wiki_parts::Fault;
-use wiki_talk::{Refusal, Reply, Request, Status};
+use wiki_talk::{ArticleRequest, Refusal, Reply, Request, Status};
 
 impl Base {
     // Puts the sentence of a text in place of the one at a place of an article.
     pub(crate) fn edit(&mut self, form: &Text8, at: u32, text: &Text8) -> Result<Reply, Fault>
-        ensures step { IfOk result (λ reply. Step self.old.state (Request.Edit form.now at text.now) reply self.new.state) }
+        ensures step { IfOk result (λ reply. StepsOnArticle self.old.state form.now (ArticleRequest.Edit at text.now) reply self.new.state) }
         ensures interpretation { IfOk result (λ reply. KeepsInterpretation self.old reply self.new) }
-        ensures spent { IfOk result (SpendsBeyondKept self.old (Request.Edit form.now at text.now)) }
-        ensures refused { IfErr result (IsFault (Refuses self.old.state (Request.Edit form.now at text.now))) }
+        ensures spent { IfOk result (SpendsBeyondKept self.old (Request.OnArticle form.now (ArticleRequest.Edit at text.now))) }
+        ensures refused { IfErr result (IsFault (RefusesOnArticle self.old.state form.now (ArticleRequest.Edit at text.now))) }
         ensures kept { OnErr result (self.new ≡ self.old) }
     {
         let fresh = self.edited(form, at, text)?;
@@ -51,8 +55,8 @@ impl Base {
         ensures tokens { IfOk result (λ fresh. fresh.tokens ≡ tokens_of self.now.state text.now) }
         ensures few { IfOk result (λ fresh. length fresh.tokens ≤ MOST_TOKENS) }
         ensures means { IfOk result (λ fresh. Means self.now.state.grammar self.now.state.words fresh.tokens (meaning_shown fresh.sense)) }
-        ensures free { OnOk result (IsAbsent (Refuses self.now.state (Request.Edit form.now at text.now))) }
-        ensures refused { IfErr result (IsFault (Refuses self.now.state (Request.Edit form.now at text.now))) }
+        ensures free { OnOk result (IsAbsent (RefusesOnArticle self.now.state form.now (ArticleRequest.Edit at text.now))) }
+        ensures refused { IfErr result (IsFault (RefusesOnArticle self.now.state form.now (ArticleRequest.Edit at text.now))) }
     {
         let word = self.named(form)?;
         let article = self.article(word);
@@ -178,10 +182,10 @@ impl Base {
 
     // Gives a retracted or red sentence the status that it gets as a new one.
     pub(crate) fn reassert(&mut self, form: &Text8, at: u32) -> Result<Reply, Fault>
-        ensures step { IfOk result (λ reply. Step self.old.state (Request.Reassert form.now at) reply self.new.state) }
+        ensures step { IfOk result (λ reply. StepsOnArticle self.old.state form.now (ArticleRequest.Reassert at) reply self.new.state) }
         ensures interpretation { IfOk result (λ reply. KeepsInterpretation self.old reply self.new) }
-        ensures spent { IfOk result (SpendsBeyondKept self.old (Request.Reassert form.now at)) }
-        ensures refused { IfErr result (IsFault (Refuses self.old.state (Request.Reassert form.now at))) }
+        ensures spent { IfOk result (SpendsBeyondKept self.old (Request.OnArticle form.now (ArticleRequest.Reassert at))) }
+        ensures refused { IfErr result (IsFault (RefusesOnArticle self.old.state form.now (ArticleRequest.Reassert at))) }
         ensures kept { OnErr result (self.new ≡ self.old) }
     {
         let word = self.reassertable(form, at)?;
@@ -196,8 +200,8 @@ impl Base {
         ensures place { IfOk result (λ word. HasSentence self.now.state.articles word at) }
         ensures may { IfOk result (λ word. (sentence : TheSentence) → sentence_at self.now.state.articles word at ≡ Some sentence
             → may_reassert sentence.status ≡ true) }
-        ensures free { OnOk result (IsAbsent (Refuses self.now.state (Request.Reassert form.now at))) }
-        ensures refused { IfErr result (IsFault (Refuses self.now.state (Request.Reassert form.now at))) }
+        ensures free { OnOk result (IsAbsent (RefusesOnArticle self.now.state form.now (ArticleRequest.Reassert at))) }
+        ensures refused { IfErr result (IsFault (RefusesOnArticle self.now.state form.now (ArticleRequest.Reassert at))) }
     {
         let word = self.named(form)?;
         let article = self.article(word);

@@ -4,10 +4,10 @@ ghost use Rattle.logic_terms.specs.Concept.{Claim};
 ghost use Rattle.logic_terms.specs.Reading.{IsModel};
 ghost use Rattle.logic_terms.specs.Shown.{claims_of};
 ghost use Rattle.owl_eval.specs.Checked.{kept_interp, kept_claims};
-ghost use Rattle.reasoner.specs.Verdicts.{IsFiniteModel};
+ghost use Rattle.plain_wiki.specs.Knowledge.{IsFiniteModel};
 ghost use Rattle.wiki_parts.specs.Found.{meaning_shown};
 ghost use Rattle.wiki_parts.specs.Kept.{stated_by, meanings_in, known_of, known_in, known_around, IsAround};
-ghost use Rattle.wiki_parts.specs.Knowledge.{is_asserted};
+ghost use Rattle.plain_wiki.specs.Knowledge.{is_asserted};
 ghost use Rattle.wiki_store.specs.Settled.{IsTrueIn};
 
 use articles::{Article, Sentence};

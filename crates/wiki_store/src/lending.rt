@@ -2,10 +2,11 @@
 ghost use Rattle.std.specs.Prelude.{◌≡◌, ◌≤◌, length, option_copied};
 ghost use Rattle.wiki_talk.specs.declared.limits.TheConstants.{MOST_SENTENCES as most_sentences};
 ghost use Rattle.articles.specs.Articles.{article_of};
+ghost use Rattle.plain_wiki.specs.Knowledge.{sentences_in};
+ghost use Rattle.plain_wiki.specs.Stored.{IsSound};
 ghost use Rattle.logic_terms.specs.Shown.{claims_of};
 ghost use Rattle.wiki_parts.specs.Kept.{MeanInEach};
-ghost use Rattle.wiki_parts.specs.Knowledge.{sentences_in, Knows};
-ghost use Rattle.wiki_parts.specs.State.{IsSound};
+ghost use Rattle.plain_wiki.specs.Knowledge.{Knows};
 
 use crate::base::Base;
 use articles::Article;

@@ -11,13 +11,14 @@ ghost use Rattle.wiki_parts.specs.Faults.{IsFault};
 ghost use Rattle.wiki_parts.specs.Found.{meaning_shown};
 ghost use Rattle.wiki_parts.specs.Holding.{FitsMeaning};
 ghost use Rattle.wiki_parts.specs.Kept.{MeanEach, meanings_in};
-ghost use Rattle.wiki_parts.specs.Knowledge.{live_names};
-ghost use Rattle.wiki_parts.specs.Meanings.{asking, Means};
-ghost use Rattle.wiki_parts.specs.Telling.{TellsSentence, TellsSentences};
+ghost use Rattle.plain_wiki.specs.Knowledge.{live_names};
+ghost use Rattle.plain_wiki.specs.Meanings.{asking, Means};
+ghost use Rattle.wiki_parts.specs.Spent.{TellsSentence, TellsSentences};
 ghost use Rattle.wiki_store.specs.Remembered.{AreAnswers, IsRemembered};
 ghost use Rattle.wiki_store.specs.Settled.{AbsorbsKnown};
 ghost use Rattle.wiki_store.specs.Spending.{KeptHasUnknown, KeptHasEachUnknown};
-ghost use Rattle.wiki_store.specs.Step.{Step, Refuses};
+ghost use Rattle.wiki_store.specs.Step.{StepsOnArticle};
+ghost use Rattle.plain_wiki.specs.Step.{RefusesOnArticle};
 
 use crate::base::Base;
 use crate::remembered::Remembered;
@@ -30,15 +31,15 @@ use lexicon::MOST_WORDS;
 use logic_terms::{Class, Names};
 use wiki_base::{Memory, Text8, Text8s, WordId};
 use wiki_parts::{Fault, Sense, Senses, answers_of, live_names, spelled, told_text};
-use wiki_talk::{Reply, Request, SentenceView, SentenceViews};
+use wiki_talk::{ArticleRequest, Reply, Request, SentenceView, SentenceViews};
 
 impl Base {
     // Tells the article of a word, with the answers to its questions.
     pub(crate) fn read(&self, remembered: &mut Remembered, form: &Text8) -> Result<Reply, Fault>
         requires { All (IsRemembered self.now) remembered.old.rows }
-        ensures step { IfOk result (λ reply. Step self.now.state (Request.Read form.now) reply self.now.state) }
-        ensures unknown { IfOk result (KeptHasEachUnknown self.now (Request.Read form.now)) }
-        ensures refused { IfErr result (IsFault (Refuses self.now.state (Request.Read form.now))) }
+        ensures step { IfOk result (λ reply. StepsOnArticle self.now.state form.now ArticleRequest.Read reply self.now.state) }
+        ensures unknown { IfOk result (KeptHasEachUnknown self.now (Request.OnArticle form.now ArticleRequest.Read)) }
+        ensures refused { IfErr result (IsFault (RefusesOnArticle self.now.state form.now ArticleRequest.Read)) }
         ensures remembered { All (IsRemembered self.now) remembered.new.rows }
     {
         let word = self.named(form)?;

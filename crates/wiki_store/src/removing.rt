@@ -2,11 +2,13 @@
 ghost use Rattle.std.specs.Prelude.{◌≡◌, ◌+◌, [], true, Some, IfOk, IfErr, OnOk, OnErr, IsSomeAnd};
 ghost use Rattle.articles.specs.Articles.{CanChange, HasSentence, sentence_at};
 ghost use Rattle.owl_eval.specs.Checked.{kept_interp, kept_claims};
-ghost use Rattle.wiki_parts.specs.Faults.{IsFault, IsAbsent};
+ghost use Rattle.wiki_parts.specs.Faults.{IsFault};
+ghost use Rattle.plain_wiki.specs.Causes.{IsAbsent};
 ghost use Rattle.wiki_parts.specs.Kept.{known_around, known_in, IsAround};
-ghost use Rattle.wiki_parts.specs.Places.{word_named};
-ghost use Rattle.wiki_parts.specs.Refusing.{may_retract};
-ghost use Rattle.wiki_store.specs.Step.{Step, Refuses};
+ghost use Rattle.plain_wiki.specs.Places.{word_named};
+ghost use Rattle.plain_wiki.specs.Knowledge.{is_asserted};
+ghost use Rattle.wiki_store.specs.Step.{StepsOnArticle};
+ghost use Rattle.plain_wiki.specs.Step.{RefusesOnArticle};
 ghost use Rattle.wiki_store.specs.Unchanged.{KeepsInterpretation};
 
 use crate::base::Base;
@@ -18,14 +20,14 @@ use owl_eval::CheckedModel;
 use std::alloc::Global;
 use wiki_base::{Memory, Text8, WordId};
 use wiki_parts::{Fault, Senses, known_around};
-use wiki_talk::{Reply, Request, Status};
+use wiki_talk::{ArticleRequest, Reply, Status};
 
 impl Base {
     // Takes the sentence at a place of an article out.
     pub(crate) fn remove(&mut self, form: &Text8, at: u32) -> Result<Reply, Fault>
-        ensures step { IfOk result (λ reply. Step self.old.state (Request.Remove form.now at) reply self.new.state) }
+        ensures step { IfOk result (λ reply. StepsOnArticle self.old.state form.now (ArticleRequest.Remove at) reply self.new.state) }
         ensures interpretation { IfOk result (λ reply. KeepsInterpretation self.old reply self.new) }
-        ensures refused { IfErr result (IsFault (Refuses self.old.state (Request.Remove form.now at))) }
+        ensures refused { IfErr result (IsFault (RefusesOnArticle self.old.state form.now (ArticleRequest.Remove at))) }
         ensures kept { OnErr result (self.new ≡ self.old) }
     {
         let word = self.removable(form, at)?;
@@ -46,9 +48,9 @@ impl Base {
 
     // Makes the sentence at a place of an article a retracted one.
     pub(crate) fn retract(&mut self, form: &Text8, at: u32) -> Result<Reply, Fault>
-        ensures step { IfOk result (λ reply. Step self.old.state (Request.Retract form.now at) reply self.new.state) }
+        ensures step { IfOk result (λ reply. StepsOnArticle self.old.state form.now (ArticleRequest.Retract at) reply self.new.state) }
         ensures interpretation { IfOk result (λ reply. KeepsInterpretation self.old reply self.new) }
-        ensures refused { IfErr result (IsFault (Refuses self.old.state (Request.Retract form.now at))) }
+        ensures refused { IfErr result (IsFault (RefusesOnArticle self.old.state form.now (ArticleRequest.Retract at))) }
         ensures kept { OnErr result (self.new ≡ self.old) }
     {
         let word = self.retracted(form, at)?;
@@ -72,8 +74,8 @@ impl Base {
         ensures named { IfOk result (λ word. word_named self.now.state form.now ≡ Some word) }
         ensures open { IfOk result (CanChange self.now.state.articles) }
         ensures place { IfOk result (λ word. HasSentence self.now.state.articles word at) }
-        ensures free { OnOk result (IsAbsent (Refuses self.now.state (Request.Remove form.now at))) }
-        ensures refused { IfErr result (IsFault (Refuses self.now.state (Request.Remove form.now at))) }
+        ensures free { OnOk result (IsAbsent (RefusesOnArticle self.now.state form.now (ArticleRequest.Remove at))) }
+        ensures refused { IfErr result (IsFault (RefusesOnArticle self.now.state form.now (ArticleRequest.Remove at))) }
     {
         let word = self.named(form)?;
         let article = self.article(word);
@@ -87,9 +89,9 @@ impl Base {
         ensures named { IfOk result (λ word. word_named self.now.state form.now ≡ Some word) }
         ensures open { IfOk result (CanChange self.now.state.articles) }
         ensures place { IfOk result (λ word. HasSentence self.now.state.articles word at) }
-        ensures may { IfOk result (λ word. IsSomeAnd (sentence_at self.now.state.articles word at) (λ sentence. may_retract sentence.status ≡ true)) }
-        ensures free { OnOk result (IsAbsent (Refuses self.now.state (Request.Retract form.now at))) }
-        ensures refused { IfErr result (IsFault (Refuses self.now.state (Request.Retract form.now at))) }
+        ensures may { IfOk result (λ word. IsSomeAnd (sentence_at self.now.state.articles word at) (λ sentence. is_asserted sentence.status ≡ true)) }
+        ensures free { OnOk result (IsAbsent (RefusesOnArticle self.now.state form.now (ArticleRequest.Retract at))) }
+        ensures refused { IfErr result (IsFault (RefusesOnArticle self.now.state form.now (ArticleRequest.Retract at))) }
     {
         let word = self.named(form)?;
         let article = self.article(word);

@@ -1,5 +1,5 @@
 // Other forms for a word, by which each sentence keeps its meaning.
-ghost use Rattle.std.specs.Prelude.{◌≡◌, ◌≤◌, None, Some, IfOk, IfErr, OnOk, OnErr, IsSome, IsTrue, All, MatchBool, length};
+ghost use Rattle.std.specs.Prelude.{◌≡◌, ◌≤◌, None, Some, IfOk, IfErr, OnOk, IsSome, IsTrue, All, MatchBool, length};
 ghost use Rattle.codeco_checked.specs.Sound.{is_labelled};
 ghost use Rattle.lexicon.specs.declared.kinds.Forms.{Forms as TheForms};
 ghost use Rattle.lexicon.specs.Kinds.{IsComplete};
@@ -9,14 +9,14 @@ ghost use Rattle.wiki_talk.specs.declared.limits.TheConstants.{MOST_SENTENCES as
 ghost use Rattle.wiki_parts.specs.Faults.{IsCause, IsFault};
 ghost use Rattle.wiki_parts.specs.Found.{meaning_shown};
 ghost use Rattle.wiki_parts.specs.Kept.{MeanInEach, MeanEach, meanings_in};
-ghost use Rattle.wiki_parts.specs.Knowledge.{sentences_in};
-ghost use Rattle.wiki_parts.specs.Meanings.{Means};
-ghost use Rattle.wiki_parts.specs.Places.{all_placed, placed_in};
-ghost use Rattle.wiki_parts.specs.Refusing.{KeepsMeaning, reword_cause, TellsPlace};
-ghost use Rattle.wiki_parts.specs.Words.{forms_given, lexicon_refusal, taken_refusal};
+ghost use Rattle.plain_wiki.specs.Knowledge.{sentences_in};
+ghost use Rattle.plain_wiki.specs.Meanings.{Means};
+ghost use Rattle.plain_wiki.specs.Places.{all_placed, placed_in};
+ghost use Rattle.plain_wiki.specs.Causes.{KeepsMeaning, reword_cause, TellsPlace};
+ghost use Rattle.plain_wiki.specs.Words.{forms_given, lexicon_refusal, taken_refusal};
 ghost use Rattle.wiki_store.specs.Rewording.{KeepsSentences, KeepsOthers, FindsPlace, IsBroken};
-ghost use Rattle.wiki_store.specs.Step.{Step, Refuses};
-ghost use Rattle.wiki_store.specs.Unchanged.{KeepsInterpretation};
+ghost use Rattle.wiki_store.specs.Step.{StepsOnWord};
+ghost use Rattle.plain_wiki.specs.Step.{RefusesOnWord};
 
 use crate::base::Base;
 use crate::sameness::same_sense;
@@ -27,17 +27,17 @@ use lists::Copied;
 use std::alloc::Global;
 use wiki_base::{Memory, Place, Text, Text8, WordId};
 use wiki_parts::{Fault, Sense, Senses, forms_given, has_form, sense_of, texts_read, told_text};
-use wiki_talk::{Refusal, Reply, Request};
+use wiki_talk::{Refusal, Reply, WordRequest};
 
 impl Base {
     // The words with other forms for the one that has this form, if each sentence keeps its meaning by them. Refused are, in
     // this order, a form that no word has, texts that can't be the forms of a word of its kind beside the others, and forms
     // by which a sentence has no derivation, or another meaning.
     pub(crate) fn rewording(&self, form: &Text8, texts: &[Text8]) -> Result<Lexicon, Fault>
-        ensures step { IfOk result (λ lexicon. Step self.now.state (Request.Reword form.now texts.now) Reply.Reword
+        ensures step { IfOk result (λ lexicon. StepsOnWord self.now.state form.now (WordRequest.Reword texts.now) Reply.Reword
             (record self.now.state { words = lexicon })) }
         ensures keeps { IfOk result (KeepsSentences self.now.state) }
-        ensures refused { IfErr result (IsFault (Refuses self.now.state (Request.Reword form.now texts.now))) }
+        ensures refused { IfErr result (IsFault (RefusesOnWord self.now.state form.now (WordRequest.Reword texts.now))) }
     {
         let word = self.named(form)?;
         let old = self.forms(word);
@@ -53,18 +53,6 @@ impl Base {
         ensures { self.new ≡ record self.old { state = record self.old.state { words = lexicon } } }
     {
         self.lexicon = lexicon;
-    }
-
-    // Gives a word other forms.
-    pub(crate) fn reword(&mut self, form: &Text8, texts: &[Text8]) -> Result<Reply, Fault>
-        ensures step { IfOk result (λ reply. Step self.old.state (Request.Reword form.now texts.now) reply self.new.state) }
-        ensures interpretation { IfOk result (λ reply. KeepsInterpretation self.old reply self.new) }
-        ensures refused { IfErr result (IsFault (Refuses self.old.state (Request.Reword form.now texts.now))) }
-        ensures kept { OnErr result (self.new ≡ self.old) }
-    {
-        let lexicon = self.rewording(form, texts)?;
-        self.reworded(lexicon);
-        Ok(Reply::Reword)
     }
 
     // The forms of a live word.

@@ -1,19 +1,18 @@
 // The store and its step.
 ghost use Rattle.std.specs.Prelude.{◌≡◌, ◌≤◌, ◌<◌, length, IsTrue, IfOk, IfErr, OnErr, Some, option_copied};
 ghost use Rattle.wiki_base.specs.declared.tokens.TheConstants.{MOST_TOKENS};
-ghost use Rattle.wiki_store.specs.Step.{only_tells};
 
-use crate::base::Base;
+use crate::base::{Base, told};
 use crate::remembered::Remembered;
 use articles::Article;
 use codeco_checked::CheckedGrammar;
-use lexicon::Lexicon;
+use lexicon::{Kind, Lexicon};
 use logic_terms::Axioms;
 use std::alloc::Global;
 use std::marker::Model;
 use wiki_base::{Memory, Text8, Tokens, WordId};
 use wiki_parts::{Fault, Senses};
-use wiki_talk::{Reply, Request, Status};
+use wiki_talk::{ArticleRequest, Reply, Request, Status, WikiRequest, WordRequest};
 
 /// The words and sentences of a wiki. They are seen as its state, which is the grammar, the budget of a search, the live words and their articles, and the
 /// interpretation that it keeps.
@@ -46,13 +45,16 @@ impl Store {
     ghost use Rattle.wiki_parts.specs.Holding.{first_holding, IsKept};
     ghost use Rattle.logic_terms.specs.Shown.{claims_of};
     ghost use Rattle.wiki_parts.specs.Kept.{MeanInEach};
-    ghost use Rattle.wiki_parts.specs.Knowledge.{sentences_in, GetStatus, Knows};
-    ghost use Rattle.wiki_parts.specs.Places.{word_named};
-    ghost use Rattle.wiki_parts.specs.State.{IsSound};
-    ghost use Rattle.wiki_store.specs.Appending.{with_appended, SpendsAtEnd};
+    ghost use Rattle.plain_wiki.specs.Knowledge.{sentences_in, Knows};
+    ghost use Rattle.wiki_parts.specs.Spent.{GetStatus};
+    ghost use Rattle.plain_wiki.specs.Places.{word_named};
+    ghost use Rattle.plain_wiki.specs.Stored.{IsSound};
+    ghost use Rattle.plain_wiki.specs.Changes.{with_appended};
+    ghost use Rattle.wiki_store.specs.Appending.{SpendsAtEnd};
     ghost use Rattle.wiki_store.specs.Rewording.{IsGone, KeepsSentences};
     ghost use Rattle.wiki_store.specs.Spending.{SpendsBeyondKept, KeptHasEachUnknown};
-    ghost use Rattle.wiki_store.specs.Step.{Step, Refuses, asks_store};
+    ghost use Rattle.wiki_store.specs.Step.{StepsOnWiki, StepsOnWord, StepsOnArticle};
+    ghost use Rattle.plain_wiki.specs.Step.{RefusesOnWord};
     ghost use Rattle.wiki_store.specs.Unchanged.{KeepsInterpretation};
 
     /// A store without words, over a grammar in which each rule has a label. A search may take `budget` steps.
@@ -66,21 +68,6 @@ impl Store {
         })
     }
 
-    /// Does one request on words, articles or sentences, or refuses it, which changes nothing.
-    pub fn step(&mut self, request: &Request) -> Result<Reply, Memory>
-        requires { IsTrue (asks_store request.now) }
-        ensures step { IfOk result (λ reply. Step self.old.state request.now reply self.new.state) }
-        ensures spent { IfOk result (SpendsBeyondKept self.old request.now) }
-        ensures unknown { IfOk result (KeptHasEachUnknown self.old request.now) }
-        ensures interpretation { IfOk result (λ reply. KeepsInterpretation self.old reply self.new) }
-        ensures kept { IsKept self.new }
-        ensures memory { OnErr result (self.new ≡ self.old) }
-    {
-        let reply = self.carry_out(request);
-        self.is_kept();
-        reply
-    }
-
     /// What the store keeps fits its state.
     pub fn is_kept(&self)
         ensures { IsKept self.now }
@@ -88,33 +75,13 @@ impl Store {
         self.base.is_kept();
     }
 
-    // Does one request, or refuses it.
-    fn carry_out(&mut self, request: &Request) -> Result<Reply, Memory>
-        requires { IsTrue (asks_store request.now) }
-        ensures step { IfOk result (λ reply. Step self.old.state request.now reply self.new.state) }
-        ensures spent { IfOk result (SpendsBeyondKept self.old request.now) }
-        ensures unknown { IfOk result (KeptHasEachUnknown self.old request.now) }
+    /// Adds a word with an empty article, or refuses it, which changes nothing.
+    pub fn add_word(&mut self, kind: Kind, forms: &[Text8]) -> Result<Reply, Memory>
+        ensures step { IfOk result (λ reply. StepsOnWiki self.old.state (WikiRequest.Word kind forms.now) reply self.new.state) }
         ensures interpretation { IfOk result (λ reply. KeepsInterpretation self.old reply self.new) }
         ensures memory { OnErr result (self.new ≡ self.old) }
     {
-        if only_tells(request) {
-            self.base.tell(&mut self.remembered, request)
-        } else {
-            self.change(request)
-        }
-    }
-
-    // Does one request that may change the base, or refuses it. Where it is done, the answers are forgotten.
-    fn change(&mut self, request: &Request) -> Result<Reply, Memory>
-        requires asks { IsTrue (asks_store request.now) }
-        requires changes { ¬ IsTrue (only_tells request.now) }
-        ensures step { IfOk result (λ reply. Step self.old.state request.now reply self.new.state) }
-        ensures spent { IfOk result (SpendsBeyondKept self.old request.now) }
-        ensures unknown { IfOk result (KeptHasEachUnknown self.old request.now) }
-        ensures interpretation { IfOk result (λ reply. KeepsInterpretation self.old reply self.new) }
-        ensures memory { OnErr result (self.new ≡ self.old) }
-    {
-        match self.base.change(request) {
+        match self.base.add(kind, forms) {
             Ok(Reply::Refused(refusal)) => Ok(Reply::Refused(refusal)),
             Ok(reply) => {
                 self.remembered.clear();
@@ -122,6 +89,38 @@ impl Store {
             }
             Err(memory) => Err(memory),
         }
+    }
+
+    /// Tells all live words.
+    pub fn words(&self) -> Result<Reply, Memory>
+        ensures { IfOk result (λ reply. StepsOnWiki self.now.state WikiRequest.Words reply self.now.state) }
+    {
+        self.base.words()
+    }
+
+    /// Tells the code of the least skeleton of a text, or why there is none.
+    pub fn parse(&self, text: &Text8) -> Result<Reply, Memory>
+        ensures { IfOk result (λ reply. StepsOnWiki self.now.state (WikiRequest.Parse text.now) reply self.now.state) }
+    {
+        told(self.base.parse(text))
+    }
+
+    /// Tells the word that has this form, or that none has.
+    pub fn find(&self, form: &Text8) -> Result<Reply, Memory>
+        ensures { IfOk result (λ reply. StepsOnWord self.now.state form.now WordRequest.Find reply self.now.state) }
+    {
+        self.base.find(form)
+    }
+
+    /// Does what is asked of the article of the word that has this form, or refuses it, which changes nothing.
+    pub fn on_article(&mut self, form: &Text8, asked: &ArticleRequest) -> Result<Reply, Memory>
+        ensures step { IfOk result (λ reply. StepsOnArticle self.old.state form.now asked.now reply self.new.state) }
+        ensures spent { IfOk result (SpendsBeyondKept self.old (Request.OnArticle form.now asked.now)) }
+        ensures unknown { IfOk result (KeptHasEachUnknown self.old (Request.OnArticle form.now asked.now)) }
+        ensures interpretation { IfOk result (λ reply. KeepsInterpretation self.old reply self.new) }
+        ensures memory { OnErr result (self.new ≡ self.old) }
+    {
+        self.base.on_article(&mut self.remembered, form, asked)
     }
 
     /// Adds tokens that have a derivation as a sentence at the end of a word's article, with the status that they get there.
@@ -144,10 +143,10 @@ impl Store {
     /// this order, a form that no word has, texts that can't be the forms of a word of its kind beside the others, and forms
     /// by which a sentence has no derivation, or another meaning.
     pub fn rewording(&self, form: &Text8, texts: &[Text8]) -> Result<Lexicon, Fault>
-        ensures step { IfOk result (λ lexicon. Step self.now.state (Request.Reword form.now texts.now) Reply.Reword
+        ensures step { IfOk result (λ lexicon. StepsOnWord self.now.state form.now (WordRequest.Reword texts.now) Reply.Reword
             (record self.now.state { words = lexicon })) }
         ensures keeps { IfOk result (KeepsSentences self.now.state) }
-        ensures refused { IfErr result (IsFault (Refuses self.now.state (Request.Reword form.now texts.now))) }
+        ensures refused { IfErr result (IsFault (RefusesOnWord self.now.state form.now (WordRequest.Reword texts.now))) }
     {
         self.base.rewording(form, texts)
     }
@@ -165,10 +164,10 @@ impl Store {
     /// no word has, and a word that a sentence needs.
     pub fn unwording(&self, form: &Text8) -> Result<(WordId, Lexicon), Fault>
         ensures named { IfOk result (λ gone. word_named self.now.state form.now ≡ Some gone.0) }
-        ensures step { IfOk result (λ gone. Step self.now.state (Request.Unword form.now) Reply.Unword
+        ensures step { IfOk result (λ gone. StepsOnWord self.now.state form.now WordRequest.Unword Reply.Unword
             (record self.now.state { words = gone.1; articles = without_article self.now.state.articles gone.0 })) }
         ensures gone { IfOk result (λ gone. IsGone self.now.state gone.0 gone.1) }
-        ensures refused { IfErr result (IsFault (Refuses self.now.state (Request.Unword form.now))) }
+        ensures refused { IfErr result (IsFault (RefusesOnWord self.now.state form.now WordRequest.Unword)) }
     {
         self.base.unwording(form)
     }
@@ -232,18 +231,4 @@ impl Store {
     {
         self.base.asserted()
     }
-}
-
-// Whether a request changes nothing.
-fn only_tells(request: &Request) -> bool
-    ensures { result ≡ only_tells request.now }
-{
-    matches!(
-        request,
-        Request::Find { .. }
-            | Request::Words
-            | Request::Parse { .. }
-            | Request::Read { .. }
-            | Request::Axioms { .. }
-    )
 }

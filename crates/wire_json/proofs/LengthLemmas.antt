@@ -12,6 +12,10 @@ use Rattle.lexicon.specs.declared.words.TheConstants.{LAST_NUMBER}
 use Rattle.wiki_io.specs.declared.limits.TheConstants.{MAX_LINE}
 use Rattle.wiki_talk.specs.declared.requests.Request.{Request}
 use Rattle.wiki_talk.specs.declared.requests.Request.TheVariants as requests
+use Rattle.wiki_talk.specs.declared.requests.WikiRequest.TheVariants as on_wiki
+use Rattle.wiki_talk.specs.declared.requests.WordRequest.TheVariants as on_word
+use Rattle.wiki_talk.specs.declared.requests.ArticleRequest.TheVariants as on_article
+use Rattle.wiki_talk.specs.declared.requests.SessionRequest.TheVariants as on_session
 use Rattle.wiki_talk.specs.Kinds.{kind_name}
 use Rattle.wire_json.specs.Values.{line_text, texts_items}
 use Rattle.wire_json.specs.Requests.{request_value, request_line}
@@ -90,27 +94,28 @@ size-kind Adjective = omega arith
 
 size-request : (r : Request) → CanBeTold r → size (request_value r) ≤ 6 * total (texts_of r) + 3 * length (texts_of r) + 49
 unfolding escape_byte
-size-request (requests.Word kind forms) h = omega (arith, size-texts forms, size-kind kind)
-size-request (requests.Find word) h = omega (arith, length-quoted word)
-size-request requests.Words h = omega arith
-size-request (requests.Parse text) h = omega (arith, length-quoted text)
-size-request (requests.Reword word forms) h = omega (arith, size-texts forms, length-quoted word)
-size-request (requests.Unword word) h = omega (arith, length-quoted word)
-size-request (requests.Add article None text) h = omega (arith, length-quoted article, length-quoted text)
-size-request (requests.Add article (Some place) text) h = omega (arith, length-quoted article, length-quoted text, digits place h.numbers)
-size-request (requests.Edit article place text) h = omega (arith, length-quoted article, length-quoted text, digits place h.numbers)
-size-request (requests.Remove article place) h = omega (arith, length-quoted article, digits place h.numbers)
-size-request (requests.Retract article place) h = omega (arith, length-quoted article, digits place h.numbers)
-size-request (requests.Reassert article place) h = omega (arith, length-quoted article, digits place h.numbers)
-size-request (requests.Read article) h = omega (arith, length-quoted article)
-size-request (requests.Axioms article place) h = omega (arith, length-quoted article, digits place h.numbers)
-size-request (requests.Begin article) h = omega (arith, length-quoted article)
-size-request (requests.Put session text) h = omega (arith, length-quoted text, digits session h.numbers)
-size-request (requests.Back session) h = omega (arith, digits session h.numbers)
-size-request (requests.Menu session) h = omega (arith, digits session h.numbers)
-size-request (requests.Commit session) h = omega (arith, digits session h.numbers)
-size-request (requests.Refresh session) h = omega (arith, digits session h.numbers)
-size-request (requests.Drop session) h = omega (arith, digits session h.numbers)
+size-request (requests.OnWiki (on_wiki.Word kind forms)) h = omega (arith, size-texts forms, size-kind kind)
+size-request (requests.OnWord word on_word.Find) h = omega (arith, length-quoted word)
+size-request (requests.OnWiki on_wiki.Words) h = omega arith
+size-request (requests.OnWiki (on_wiki.Parse text)) h = omega (arith, length-quoted text)
+size-request (requests.OnWord word (on_word.Reword forms)) h = omega (arith, size-texts forms, length-quoted word)
+size-request (requests.OnWord word on_word.Unword) h = omega (arith, length-quoted word)
+size-request (requests.OnArticle article (on_article.Add None text)) h = omega (arith, length-quoted article, length-quoted text)
+size-request (requests.OnArticle article (on_article.Add (Some place) text)) h =
+    omega (arith, length-quoted article, length-quoted text, digits place h.numbers)
+size-request (requests.OnArticle article (on_article.Edit place text)) h = omega (arith, length-quoted article, length-quoted text, digits place h.numbers)
+size-request (requests.OnArticle article (on_article.Remove place)) h = omega (arith, length-quoted article, digits place h.numbers)
+size-request (requests.OnArticle article (on_article.Retract place)) h = omega (arith, length-quoted article, digits place h.numbers)
+size-request (requests.OnArticle article (on_article.Reassert place)) h = omega (arith, length-quoted article, digits place h.numbers)
+size-request (requests.OnArticle article on_article.Read) h = omega (arith, length-quoted article)
+size-request (requests.OnArticle article (on_article.Axioms place)) h = omega (arith, length-quoted article, digits place h.numbers)
+size-request (requests.Open article) h = omega (arith, length-quoted article)
+size-request (requests.OnSession session (on_session.Type text)) h = omega (arith, length-quoted text, digits session h.numbers)
+size-request (requests.OnSession session on_session.Back) h = omega (arith, digits session h.numbers)
+size-request (requests.OnSession session on_session.Menu) h = omega (arith, digits session h.numbers)
+size-request (requests.OnSession session on_session.Commit) h = omega (arith, digits session h.numbers)
+size-request (requests.OnSession session on_session.Refresh) h = omega (arith, digits session h.numbers)
+size-request (requests.OnSession session on_session.Drop) h = omega (arith, digits session h.numbers)
 
 -- a line is its text and a newline
 pub request_line-text : (r : Request) → request_line r ≡ request_text r ++ 10 ∷ []
@@ -132,26 +137,26 @@ total-forms (form ∷ forms) h =
     omega (arith, one, total-forms forms (All-tail IsShortForm form forms h))
 
 texts-short : (r : Request) → IsShortChange r → 6 * total (texts_of r) + 3 * length (texts_of r) + 50 ≤ most_line
-texts-short (requests.Word kind forms) h = omega (arith, total-forms forms h.0, h.1)
-texts-short (requests.Find word) h = absurd h
-texts-short requests.Words h = absurd h
-texts-short (requests.Parse text) h = absurd h
-texts-short (requests.Reword word forms) h = omega (arith, h.0, total-forms forms h.1.0, h.1.1)
-texts-short (requests.Unword word) h = omega (arith, h)
-texts-short (requests.Add article place text) h = omega (arith, h.0, h.1)
-texts-short (requests.Edit article place text) h = omega (arith, h.0, h.1)
-texts-short (requests.Remove article place) h = omega (arith, h)
-texts-short (requests.Retract article place) h = omega (arith, h)
-texts-short (requests.Reassert article place) h = omega (arith, h)
-texts-short (requests.Read article) h = absurd h
-texts-short (requests.Axioms article place) h = absurd h
-texts-short (requests.Begin article) h = absurd h
-texts-short (requests.Put session text) h = absurd h
-texts-short (requests.Back session) h = absurd h
-texts-short (requests.Menu session) h = absurd h
-texts-short (requests.Commit session) h = absurd h
-texts-short (requests.Refresh session) h = absurd h
-texts-short (requests.Drop session) h = absurd h
+texts-short (requests.OnWiki (on_wiki.Word kind forms)) h = omega (arith, total-forms forms h.0, h.1)
+texts-short (requests.OnWord word on_word.Find) h = absurd h
+texts-short (requests.OnWiki on_wiki.Words) h = absurd h
+texts-short (requests.OnWiki (on_wiki.Parse text)) h = absurd h
+texts-short (requests.OnWord word (on_word.Reword forms)) h = omega (arith, h.0, total-forms forms h.1.0, h.1.1)
+texts-short (requests.OnWord word on_word.Unword) h = omega (arith, h)
+texts-short (requests.OnArticle article (on_article.Add place text)) h = omega (arith, h.0, h.1)
+texts-short (requests.OnArticle article (on_article.Edit place text)) h = omega (arith, h.0, h.1)
+texts-short (requests.OnArticle article (on_article.Remove place)) h = omega (arith, h)
+texts-short (requests.OnArticle article (on_article.Retract place)) h = omega (arith, h)
+texts-short (requests.OnArticle article (on_article.Reassert place)) h = omega (arith, h)
+texts-short (requests.OnArticle article on_article.Read) h = absurd h
+texts-short (requests.OnArticle article (on_article.Axioms place)) h = absurd h
+texts-short (requests.Open article) h = absurd h
+texts-short (requests.OnSession session (on_session.Type text)) h = absurd h
+texts-short (requests.OnSession session on_session.Back) h = absurd h
+texts-short (requests.OnSession session on_session.Menu) h = absurd h
+texts-short (requests.OnSession session on_session.Commit) h = absurd h
+texts-short (requests.OnSession session on_session.Refresh) h = absurd h
+texts-short (requests.OnSession session on_session.Drop) h = absurd h
 
 -- the line of a change whose texts are no longer than those of a wiki
 pub length-change_line : (r : Request) → CanBeTold r → IsShortChange r → length (request_line r) ≤ most_line

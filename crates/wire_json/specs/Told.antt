@@ -7,54 +7,36 @@ use Rattle.wiki_io.specs.declared.limits.TheConstants.{NEWLINE}
 use Rattle.lexicon.specs.declared.words.TheConstants.{LAST_NUMBER}
 use Rattle.wiki_talk.specs.declared.requests.Request.{Request}
 use Rattle.wiki_talk.specs.declared.requests.Request.TheVariants as requests
+use Rattle.wiki_talk.specs.declared.requests.WikiRequest.TheVariants as on_wiki
+use Rattle.wiki_talk.specs.declared.requests.WordRequest.TheVariants as on_word
+use Rattle.wiki_talk.specs.declared.requests.ArticleRequest.TheVariants as on_article
+use Rattle.wiki_talk.specs.declared.requests.SessionRequest.TheVariants as on_session
 use Rattle.wire_json.specs.Requests.{request_value}
 
 -- the texts of a request
 abbrev pub texts_of : Request → List (List ℕ)
-texts_of (requests.Word kind forms) = forms
-texts_of (requests.Find word) = word ∷ []
-texts_of requests.Words = []
-texts_of (requests.Parse text) = text ∷ []
-texts_of (requests.Reword word forms) = word ∷ forms
-texts_of (requests.Unword word) = word ∷ []
-texts_of (requests.Add article place text) = article ∷ text ∷ []
-texts_of (requests.Edit article place text) = article ∷ text ∷ []
-texts_of (requests.Remove article place) = article ∷ []
-texts_of (requests.Retract article place) = article ∷ []
-texts_of (requests.Reassert article place) = article ∷ []
-texts_of (requests.Read article) = article ∷ []
-texts_of (requests.Axioms article place) = article ∷ []
-texts_of (requests.Begin article) = article ∷ []
-texts_of (requests.Put session text) = text ∷ []
-texts_of (requests.Back session) = []
-texts_of (requests.Menu session) = []
-texts_of (requests.Commit session) = []
-texts_of (requests.Refresh session) = []
-texts_of (requests.Drop session) = []
+texts_of (requests.OnWiki (on_wiki.Word kind forms)) = forms
+texts_of (requests.OnWiki on_wiki.Words) = []
+texts_of (requests.OnWiki (on_wiki.Parse text)) = text ∷ []
+texts_of (requests.OnWord word (on_word.Reword forms)) = word ∷ forms
+texts_of (requests.OnWord word asked) = word ∷ []
+texts_of (requests.OnArticle article (on_article.Add place text)) = article ∷ text ∷ []
+texts_of (requests.OnArticle article (on_article.Edit place text)) = article ∷ text ∷ []
+texts_of (requests.OnArticle article asked) = article ∷ []
+texts_of (requests.Open article) = article ∷ []
+texts_of (requests.OnSession session (on_session.Type text)) = text ∷ []
+texts_of (requests.OnSession session asked) = []
 
 -- the number of a place or of a session, if the request has one
 abbrev pub numbers_of : Request → List ℕ
-numbers_of (requests.Word kind forms) = []
-numbers_of (requests.Find word) = []
-numbers_of requests.Words = []
-numbers_of (requests.Parse text) = []
-numbers_of (requests.Reword word forms) = []
-numbers_of (requests.Unword word) = []
-numbers_of (requests.Add article None text) = []
-numbers_of (requests.Add article (Some place) text) = place ∷ []
-numbers_of (requests.Edit article place text) = place ∷ []
-numbers_of (requests.Remove article place) = place ∷ []
-numbers_of (requests.Retract article place) = place ∷ []
-numbers_of (requests.Reassert article place) = place ∷ []
-numbers_of (requests.Read article) = []
-numbers_of (requests.Axioms article place) = place ∷ []
-numbers_of (requests.Begin article) = []
-numbers_of (requests.Put session text) = session ∷ []
-numbers_of (requests.Back session) = session ∷ []
-numbers_of (requests.Menu session) = session ∷ []
-numbers_of (requests.Commit session) = session ∷ []
-numbers_of (requests.Refresh session) = session ∷ []
-numbers_of (requests.Drop session) = session ∷ []
+numbers_of (requests.OnArticle article (on_article.Add (Some place) text)) = place ∷ []
+numbers_of (requests.OnArticle article (on_article.Edit place text)) = place ∷ []
+numbers_of (requests.OnArticle article (on_article.Remove place)) = place ∷ []
+numbers_of (requests.OnArticle article (on_article.Retract place)) = place ∷ []
+numbers_of (requests.OnArticle article (on_article.Reassert place)) = place ∷ []
+numbers_of (requests.OnArticle article (on_article.Axioms place)) = place ∷ []
+numbers_of (requests.OnSession session asked) = session ∷ []
+numbers_of request = []
 
 -- a line can tell the request: its texts are UTF-8, and its numbers such as a line can have
 pub record CanBeTold (request : Request) : Type 0 where
@@ -86,14 +68,14 @@ IsShortSentence sentence = length sentence ≤ MOST_TOKENS * (LONGEST_TEXT + 1)
 
 -- the request is a change of words or sentences, and its texts are no longer than those of a wiki
 abbrev pub IsShortChange : Request → Type 0
-IsShortChange (requests.Word kind forms) = AreShortForms forms
-IsShortChange (requests.Reword word forms) = IsShortForm word × AreShortForms forms
-IsShortChange (requests.Unword word) = IsShortForm word
-IsShortChange (requests.Add article place text) = IsShortForm article × IsShortSentence text
-IsShortChange (requests.Edit article place text) = IsShortForm article × IsShortSentence text
-IsShortChange (requests.Remove article place) = IsShortForm article
-IsShortChange (requests.Retract article place) = IsShortForm article
-IsShortChange (requests.Reassert article place) = IsShortForm article
+IsShortChange (requests.OnWiki (on_wiki.Word kind forms)) = AreShortForms forms
+IsShortChange (requests.OnWord word (on_word.Reword forms)) = IsShortForm word × AreShortForms forms
+IsShortChange (requests.OnWord word on_word.Unword) = IsShortForm word
+IsShortChange (requests.OnArticle article (on_article.Add place text)) = IsShortForm article × IsShortSentence text
+IsShortChange (requests.OnArticle article (on_article.Edit place text)) = IsShortForm article × IsShortSentence text
+IsShortChange (requests.OnArticle article (on_article.Remove place)) = IsShortForm article
+IsShortChange (requests.OnArticle article (on_article.Retract place)) = IsShortForm article
+IsShortChange (requests.OnArticle article (on_article.Reassert place)) = IsShortForm article
 IsShortChange request = ⊥
 
 -- such a change that a line can tell

@@ -3,7 +3,7 @@ use Rattle.std.proofs.lemmas.List.Elements.{All-contains_itself}
 use Rattle.wiki_base.specs.declared.numbers.WordId.{WordId}
 use Rattle.logic_terms.specs.Concept.{Concept, Claim}
 use Rattle.answers.specs.Answered.{denied, IsUnknown}
-use Rattle.wiki_parts.specs.Knowledge.{IsCutOff}
+use Rattle.wiki_parts.specs.Spent.{IsCutOff}
 use Rattle.wiki_parts.proofs.NameLemmas.{rise_pairs}
 use Rattle.wiki_parts.proofs.answering.answers_of.Goals as goal
 

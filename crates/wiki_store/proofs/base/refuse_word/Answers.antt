@@ -1,4 +1,4 @@
-use Rattle.wiki_parts.specs.Words.{forms_given}
+use Rattle.plain_wiki.specs.Words.{forms_given}
 use Rattle.wiki_parts.proofs.FullLemmas.{takes-none}
 use Rattle.wiki_store.proofs.base.refuse_word.Goals as goal
 

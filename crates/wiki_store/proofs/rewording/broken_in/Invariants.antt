@@ -1,8 +1,8 @@
 use Rattle.std.proofs.Common.{Option, drop}
 use Rattle.lexicon.specs.Words.{Listed}
 use Rattle.wiki_parts.specs.Kept.{MeanEach, meanings_in}
-use Rattle.wiki_parts.specs.Places.{Placed, placed_from, placed_in}
-use Rattle.wiki_parts.specs.Refusing.{KeepsMeaning}
+use Rattle.plain_wiki.specs.Places.{Placed, placed_from, placed_in}
+use Rattle.plain_wiki.specs.Causes.{KeepsMeaning}
 use Rattle.wiki_store.specs.Rewording.{KeepsOthers, Finds}
 use Rattle.wiki_store.proofs.rewording.broken_in.Given as goal
 

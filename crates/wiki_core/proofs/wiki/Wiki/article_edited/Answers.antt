@@ -3,7 +3,7 @@ use Rattle.std.proofs.lemmas.Bool.{false≢true}
 use Rattle.std.proofs.lemmas.Option.{same_Some}
 use Rattle.articles.specs.declared.article.Article.{Article}
 use Rattle.sessions.specs.Sessions.{plain, all_plain, session_of}
-use Rattle.wiki_core.specs.Causes.{session_numbered}
+use Rattle.plain_wiki.specs.Causes.{session_numbered}
 use Rattle.wiki_core.specs.Holding.{Holding}
 use Rattle.wiki_core.proofs.HeldLemmas.{on_there}
 use Rattle.wiki_core.proofs.wiki.Wiki.article_edited.Goals as goal

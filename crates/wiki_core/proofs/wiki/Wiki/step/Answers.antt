@@ -2,7 +2,7 @@ use Rattle.std.proofs.Common.{◌≡◌, Result, Ok, Err, IfOk}
 use Rattle.lists.specs.declared.memory.Memory.{Memory}
 use Rattle.wiki_talk.specs.declared.requests.Request.{Request}
 use Rattle.wiki_talk.specs.declared.replies.Reply.{Reply}
-use Rattle.wiki_core.specs.State.{State}
+use Rattle.plain_wiki.specs.State.{State}
 use Rattle.wiki_core.specs.Step.{Step}
 use Rattle.wiki_core.specs.Apart.{MenuIsOwn}
 use Rattle.wiki_core.proofs.MenuLemmas.{menu_own}

@@ -2,7 +2,7 @@ use Rattle.std.proofs.Common.{ℕ, ◌+◌, ap}
 use Rattle.sessions.specs.Sessions.{plain}
 use Rattle.wiki_talk.specs.declared.replies.Reply.TheVariants as replies
 use Rattle.wiki_core.specs.Holding.{Holding}
-use Rattle.wiki_core.specs.Causes.{NamesNoSession, IsFullOfTokens, IsNotOffered}
+use Rattle.plain_wiki.specs.Causes.{NamesNoSession, IsFullOfTokens, IsNotOffered}
 use Rattle.wiki_core.proofs.CommitLemmas.{none_of_three}
 use Rattle.wiki_core.proofs.wiki.Wiki.type_token.Goals as goal
 
@@ -15,7 +15,7 @@ returns-clause-step c =
       record {
         session = plain c.in_ok-session.session.now;
         named = c.in_ok-session.ensures.found;
-        answer = ap (λ (k : ℕ). replies.Put (k + 1)) c.in_ok-count.ensures.count;
+        answer = ap (λ (k : ℕ). replies.Type (k + 1)) c.in_ok-count.ensures.count;
         after = ap (λ (h : Holding). h.state) c.in_ok-put.ensures.typed;
       },
     )

@@ -9,19 +9,19 @@ use Rattle.wiki_core.proofs.wiki.Wiki.unword.Goals as goal
 
 pub invariant_of-self : goal.invariant_of-self
 invariant_of-self c =
-    let pages = c.self.inside.store.state in
+    let stored = c.self.inside.store.state in
     let word = c.in_ok-gone.gone.0 in
     let lexicon = c.in_ok-gone.gone.1 in
     let sessions = c.in_ok-sessions.sessions in
     subst (λ (h : holding.Holding). AreHeld h.state c.end_on.new.self c.self.inside.last) (sym c.unworded.ensures)
-    (held_ended pages lexicon word c.self.inside.sessions c.end_on.new.self (all_plain sessions) c.self.inside.last c.self.invariant
-    (c.end_on.ensures.kept pages.grammar lexicon (subst (λ (g : GrammarParts). AreKept g lexicon sessions) c.grammar.ensures c.in_ok-sessions.ensures.kept))
+    (held_ended stored lexicon word c.self.inside.sessions c.end_on.new.self (all_plain sessions) c.self.inside.last c.self.invariant
+    (c.end_on.ensures.kept stored.grammar lexicon (subst (λ (g : GrammarParts). AreKept g lexicon sessions) c.grammar.ensures c.in_ok-sessions.ensures.kept))
     (subst (λ (g : GrammarParts). AreRebased g lexicon (all_plain c.self.inside.sessions) (all_plain sessions)) c.grammar.ensures
     c.in_ok-sessions.ensures.rebased)
     c.end_on.ensures.ended)
 
 pub rebased-requires : goal.rebased-requires
 rebased-requires c =
-    let pages = c.self.inside.store.state in
+    let stored = c.self.inside.store.state in
     subst (λ (g : GrammarParts). AreOfGrammar g c.self.inside.sessions) (sym c.grammar.ensures)
-    (kept_grammar pages.grammar pages.words c.self.inside.sessions c.self.invariant.kept)
+    (kept_grammar stored.grammar stored.words c.self.inside.sessions c.self.invariant.kept)

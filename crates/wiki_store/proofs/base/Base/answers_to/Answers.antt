@@ -4,9 +4,9 @@ use Rattle.logic_terms.specs.Concept.{Claim}
 use Rattle.logic_terms.specs.Shown.{concept_of}
 use Rattle.owl_eval.specs.Checked.{kept_claims, kept_interp}
 use Rattle.wiki_parts.specs.Holding.{Holding}
-use Rattle.wiki_parts.specs.Knowledge.{live_names, Knows}
-use Rattle.wiki_parts.specs.Meanings.{asking, Means}
-use Rattle.wiki_parts.specs.State.{State}
+use Rattle.plain_wiki.specs.Knowledge.{live_names, Knows}
+use Rattle.plain_wiki.specs.Meanings.{asking, Means}
+use Rattle.plain_wiki.specs.Stored.{Stored}
 use Rattle.wiki_parts.proofs.KnownLemmas.{knows_from_known}
 use Rattle.wiki_parts.proofs.OverLemmas.{answers_over, answers_plain}
 use Rattle.wiki_store.proofs.ReadLemmas.{are-answers}
@@ -34,7 +34,7 @@ answers_of-requires-clause-plain c =
 
 pub answers_of-requires-clause-absorbed : goal.answers_of-requires-clause-absorbed
 answers_of-requires-clause-absorbed c =
-    let inside : State = record {
+    let inside : Stored = record {
       grammar = c.self.inside.grammar;
       budget = c.self.inside.budget;
       words = c.self.inside.lexicon;
@@ -48,7 +48,7 @@ answers_of-requires-clause-absorbed c =
 
 pub returns : goal.returns
 returns c =
-    let inside : State = record {
+    let inside : Stored = record {
       grammar = c.self.inside.grammar;
       budget = c.self.inside.budget;
       words = c.self.inside.lexicon;

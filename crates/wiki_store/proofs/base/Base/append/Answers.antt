@@ -4,9 +4,10 @@ use Rattle.logic_terms.specs.Concept.{Claim}
 use Rattle.logic_terms.specs.Reading.{IsModel}
 use Rattle.std.proofs.Common.{List}
 use Rattle.wiki_parts.specs.Found.{meaning_shown}
-use Rattle.wiki_parts.specs.Knowledge.{IsStatusOf, GetStatus, Knows}
-use Rattle.wiki_store.specs.Step.{with_inserted}
-use Rattle.wiki_store.specs.Appending.{with_appended, SpendsAtEnd}
+use Rattle.wiki_parts.specs.Spent.{IsStatusOf, GetStatus}
+use Rattle.plain_wiki.specs.Knowledge.{Knows}
+use Rattle.plain_wiki.specs.Changes.{with_inserted, with_appended}
+use Rattle.wiki_store.specs.Appending.{SpendsAtEnd}
 use Rattle.wiki_store.proofs.InsideLemmas.{each-ok, appended-status, appended-spent}
 use Rattle.wiki_store.proofs.base.Base.append.Goals as goal
 

@@ -1,18 +1,22 @@
 use Rattle.std.proofs.Common.{ℕ, sym, subst}
 use Rattle.wiki_talk.specs.declared.replies.Reply.TheVariants as replies
 use Rattle.wiki_talk.specs.declared.requests.Request.TheVariants as requests
-use Rattle.wiki_parts.specs.Faults.{IsAbsent}
+use Rattle.wiki_talk.specs.declared.requests.ArticleRequest.TheVariants as on_article
+use Rattle.plain_wiki.specs.Causes.{IsAbsent}
 use Rattle.wiki_parts.specs.Found.{meaning_shown}
-use Rattle.wiki_store.specs.Step.{Step, Refuses}
+use Rattle.plain_wiki.specs.Step.{RefusesOnArticle}
+use Rattle.wiki_store.specs.Step.{StepsOnArticle}
 use Rattle.wiki_store.specs.Spending.{SpendsBeyondKept}
 use Rattle.wiki_store.proofs.StepLemmas.{edits-step, edits-spent}
 use Rattle.wiki_store.proofs.base.Base.edit.Goals as goal
 
 pub returns-clause-step : goal.returns-clause-step
 returns-clause-step c =
-    let free = subst (λ (n : ℕ). IsAbsent (Refuses c.args.self.now.state (requests.Edit c.args.form.now n c.args.text.now))) (sym c.in_ok-fresh.ensures.at)
+    let free = subst (λ (n : ℕ). IsAbsent (RefusesOnArticle c.args.self.now.state c.args.form.now (on_article.Edit n c.args.text.now)))
+    (sym c.in_ok-fresh.ensures.at)
     c.in_ok-fresh.ensures.free in
-    subst (λ (n : ℕ). Step c.args.self.now.state (requests.Edit c.args.form.now n c.args.text.now) (replies.Edit c.in_ok-status.status c.in_ok-shown.shown)
+    subst (λ (n : ℕ). StepsOnArticle c.args.self.now.state c.args.form.now (on_article.Edit n c.args.text.now)
+    (replies.Edit c.in_ok-status.status c.in_ok-shown.shown)
     c.replace.new.self.state) c.in_ok-fresh.ensures.at
     (edits-step c.args.self.now c.args.form.now c.in_ok-fresh.fresh.at c.args.text.now c.in_ok-fresh.fresh.word c.in_ok-fresh.fresh.tokens c.in_ok-status.status
     c.in_ok-fresh.ensures.named
@@ -22,7 +26,7 @@ returns-clause-step c =
 
 pub returns-clause-spent : goal.returns-clause-spent
 returns-clause-spent c =
-    subst (λ (n : ℕ). SpendsBeyondKept c.args.self.now (requests.Edit c.args.form.now n c.args.text.now)
+    subst (λ (n : ℕ). SpendsBeyondKept c.args.self.now (requests.OnArticle c.args.form.now (on_article.Edit n c.args.text.now))
     (replies.Edit c.in_ok-status.status c.in_ok-shown.shown))
     c.in_ok-fresh.ensures.at
     (edits-spent c.args.self.now c.args.form.now c.in_ok-fresh.fresh.at c.args.text.now c.in_ok-fresh.fresh.word c.in_ok-fresh.fresh.tokens

@@ -5,7 +5,7 @@ use Rattle.logic_terms.specs.Concept.{Claim}
 use Rattle.logic_terms.specs.Interpretation.{Interpretation}
 use Rattle.logic_terms.specs.Reading.{IsModel}
 use Rattle.logic_terms.specs.Shown.{claims_of}
-use Rattle.reasoner.specs.Verdicts.{IsFiniteModel}
+use Rattle.plain_wiki.specs.Knowledge.{IsFiniteModel, live_names, sentences_in}
 use Rattle.owl_eval.specs.Checked.{kept_interp, kept_claims}
 use Rattle.wiki_talk.specs.declared.limits.TheConstants.{MOST_SENTENCES}
 use Rattle.wiki_talk.specs.declared.statuses.Status.{Status}
@@ -14,20 +14,19 @@ use Rattle.articles.specs.declared.sentences.Sentence.{Sentence}
 use Rattle.articles.specs.declared.article.Article.{Article}
 use Rattle.articles.specs.Articles.{AreInOrder}
 use Rattle.wiki_parts.specs.declared.meanings.Sense.{Sense}
-use Rattle.wiki_parts.specs.State.{State}
+use Rattle.plain_wiki.specs.Stored.{Stored}
 use Rattle.wiki_parts.specs.Holding.{Holding}
 use Rattle.wiki_parts.specs.Found.{meaning_shown}
-use Rattle.wiki_parts.specs.Knowledge.{live_names, sentences_in}
 use Rattle.wiki_parts.specs.Kept.{stated_by, known_around, known_in, IsAround, Stands, IsKeeping}
 use Rattle.wiki_store.specs.Settled.{IsTrueIn}
-use Rattle.wiki_store.specs.Step.{with_inserted}
+use Rattle.plain_wiki.specs.Changes.{with_inserted}
 use Rattle.wiki_store.proofs.JoiningLemmas.{settled-states, settled-stands, not-red, keeps-claims}
 use Rattle.wiki_store.proofs.InsideLemmas.{moved, gap, gap_own, status_outside, keeps_inside}
 use Rattle.wiki_store.proofs.base.Base.insert_true.Goals as goal
 
 pub join-requires-clause-around : goal.join-requires-clause-around
 join-requires-clause-around c =
-    let inside : State = record {
+    let inside : Stored = record {
       grammar = c.self.inside.grammar;
       budget = c.self.inside.budget;
       words = c.self.inside.lexicon;
@@ -52,7 +51,7 @@ join-requires-clause-model c =
 
 pub invariant_of-self : goal.invariant_of-self
 invariant_of-self c =
-    let inside : State = record {
+    let inside : Stored = record {
       grammar = c.self.inside.grammar;
       budget = c.self.inside.budget;
       words = c.self.inside.lexicon;
@@ -62,7 +61,7 @@ invariant_of-self c =
 
 pub returns-in_err-join-clause-memory : goal.returns-in_err-join-clause-memory
 returns-in_err-join-clause-memory c =
-    let inside : State = record {
+    let inside : Stored = record {
       grammar = c.self.inside.grammar;
       budget = c.self.inside.budget;
       words = c.self.inside.lexicon;
@@ -74,7 +73,7 @@ returns-in_err-join-clause-memory c =
 
 pub put-requires-clause-own : goal.put-requires-clause-own
 put-requires-clause-own c =
-    let inside : State = record {
+    let inside : Stored = record {
       grammar = c.self.inside.grammar;
       budget = c.self.inside.budget;
       words = c.self.inside.lexicon;
@@ -87,7 +86,7 @@ put-requires-clause-own c =
 
 pub invariant_of-self-in-Ok : goal.invariant_of-self-in-Ok
 invariant_of-self-in-Ok c =
-    let inside : State = record {
+    let inside : Stored = record {
       grammar = c.self.inside.grammar;
       budget = c.self.inside.budget;
       words = c.self.inside.lexicon;
@@ -129,7 +128,7 @@ invariant_of-self-in-Ok c =
 
 pub returns-in-Ok-clause-status : goal.returns-in-Ok-clause-status
 returns-in-Ok-clause-status c =
-    let inside : State = record {
+    let inside : Stored = record {
       grammar = c.self.inside.grammar;
       budget = c.self.inside.budget;
       words = c.self.inside.lexicon;
@@ -164,7 +163,7 @@ returns-in-Ok-clause-status c =
 
 pub returns-in-Ok-clause-after : goal.returns-in-Ok-clause-after
 returns-in-Ok-clause-after c =
-    let inside : State = record {
+    let inside : Stored = record {
       grammar = c.self.inside.grammar;
       budget = c.self.inside.budget;
       words = c.self.inside.lexicon;
@@ -179,7 +178,7 @@ returns-in-Ok-clause-spent c =
 
 pub undo-requires-clause-around : goal.undo-requires-clause-around
 undo-requires-clause-around c =
-    let inside : State = record {
+    let inside : Stored = record {
       grammar = c.self.inside.grammar;
       budget = c.self.inside.budget;
       words = c.self.inside.lexicon;
@@ -206,7 +205,7 @@ undo-requires-clause-joined c = (
 
 pub invariant_of-self-in-Err : goal.invariant_of-self-in-Err
 invariant_of-self-in-Err c =
-    let inside : State = record {
+    let inside : Stored = record {
       grammar = c.self.inside.grammar;
       budget = c.self.inside.budget;
       words = c.self.inside.lexicon;

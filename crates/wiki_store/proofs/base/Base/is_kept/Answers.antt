@@ -1,15 +1,15 @@
 use Rattle.std.proofs.Common.{subst}
 use Rattle.logic_terms.specs.Interpretation.{Interpretation}
 use Rattle.owl_eval.specs.Checked.{kept_claims}
-use Rattle.reasoner.specs.Verdicts.{IsFiniteModel}
-use Rattle.wiki_parts.specs.State.{State}
+use Rattle.plain_wiki.specs.Knowledge.{IsFiniteModel}
+use Rattle.plain_wiki.specs.Stored.{Stored}
 use Rattle.wiki_parts.specs.Holding.{IsKept}
 use Rattle.wiki_store.proofs.KeepingLemmas.{is_kept}
 use Rattle.wiki_store.proofs.base.Base.is_kept.Goals as goal
 
 pub returns : goal.returns
 returns c =
-    let inside : State = record {
+    let inside : Stored = record {
       grammar = c.self.inside.grammar;
       budget = c.self.inside.budget;
       words = c.self.inside.lexicon;

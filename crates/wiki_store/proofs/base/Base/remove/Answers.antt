@@ -6,13 +6,13 @@ use Rattle.articles.specs.Articles.{with_change}
 use Rattle.owl_eval.specs.Checked.{kept_interp, kept_claims}
 use Rattle.wiki_parts.specs.declared.meanings.Sense.{Sense}
 use Rattle.wiki_parts.specs.Kept.{known_around, known_in, IsAround, IsKeeping}
-use Rattle.wiki_parts.specs.State.{State}
+use Rattle.plain_wiki.specs.Stored.{Stored}
 use Rattle.wiki_store.proofs.ChangeLemmas.{place-within, around-within, own-found, below-own, keeps_taken}
 use Rattle.wiki_store.proofs.base.Base.remove.Goals as goal
 
 pub leave-requires-clause-around : goal.leave-requires-clause-around
 leave-requires-clause-around c =
-    let inside : State = record {
+    let inside : Stored = record {
       grammar = c.self.inside.grammar;
       budget = c.self.inside.budget;
       words = c.self.inside.lexicon;
@@ -37,7 +37,7 @@ leave-requires-clause-known c =
 
 pub index_mut-requires : goal.index_mut-requires
 index_mut-requires c =
-    let inside : State = record {
+    let inside : Stored = record {
       grammar = c.self.inside.grammar;
       budget = c.self.inside.budget;
       words = c.self.inside.lexicon;
@@ -55,7 +55,7 @@ index_mut-requires c =
 
 pub remove-requires : goal.remove-requires
 remove-requires c =
-    let inside : State = record {
+    let inside : Stored = record {
       grammar = c.self.inside.grammar;
       budget = c.self.inside.budget;
       words = c.self.inside.lexicon;
@@ -74,7 +74,7 @@ remove-requires c =
 
 pub invariant_of-self : goal.invariant_of-self
 invariant_of-self c =
-    let inside : State = record {
+    let inside : Stored = record {
       grammar = c.self.inside.grammar;
       budget = c.self.inside.budget;
       words = c.self.inside.lexicon;
@@ -96,7 +96,7 @@ invariant_of-self c =
     let left : c.remove.new.self ≡ remove around.own at =
     c.remove.ensures.rest ∙ ap (λ (own : List Sense). remove own at)
     (own-found inside.articles senses place at around c.index_mut.result.now c.index_mut.ensures.value) in
-    let after : State = record inside { articles = with_change inside.articles word (λ sentences. remove sentences at) } in (
+    let after : Stored = record inside { articles = with_change inside.articles word (λ sentences. remove sentences at) } in (
       subst (λ (articles : List Article). IsKeeping (record inside { articles = articles }) (set senses place c.remove.new.self) c.leave.new.kept)
           (sym c.take.ensures.articles)
           (subst (λ (own : List Sense). IsKeeping after (set senses place own) c.leave.new.kept) (sym left)

@@ -9,19 +9,19 @@ use Rattle.articles.specs.declared.sentences.Sentence.{Sentence}
 use Rattle.articles.specs.declared.article.Article.{Article}
 use Rattle.articles.specs.Articles.{AreInOrder}
 use Rattle.wiki_parts.specs.declared.meanings.Sense.{Sense}
-use Rattle.wiki_parts.specs.State.{State}
+use Rattle.plain_wiki.specs.Stored.{Stored}
 use Rattle.wiki_parts.specs.Holding.{Holding}
 use Rattle.wiki_parts.specs.Found.{meaning_shown}
-use Rattle.wiki_parts.specs.Knowledge.{is_asserted, live_names}
+use Rattle.plain_wiki.specs.Knowledge.{is_asserted, live_names}
 use Rattle.wiki_parts.specs.Kept.{stated_by, known_around, Stands}
-use Rattle.wiki_store.specs.Step.{with_replaced}
+use Rattle.plain_wiki.specs.Changes.{with_replaced}
 use Rattle.wiki_store.proofs.AroundLemmas.{set_parts}
 use Rattle.wiki_store.proofs.InsideLemmas.{item-is, moved, spot, over_inside, plain_inside, status_outside, spends_outside, keeps_inside}
 use Rattle.wiki_store.proofs.base.Base.replace_judged.Goals as goal
 
 pub model_without-requires-clause-around : goal.model_without-requires-clause-around
 model_without-requires-clause-around c =
-    let inside : State = record {
+    let inside : Stored = record {
       grammar = c.self.inside.grammar;
       budget = c.self.inside.budget;
       words = c.self.inside.lexicon;
@@ -36,7 +36,7 @@ model_without-requires-clause-around c =
 
 pub standing-requires-clause-around : goal.standing-requires-clause-around
 standing-requires-clause-around c =
-    let inside : State = record {
+    let inside : Stored = record {
       grammar = c.self.inside.grammar;
       budget = c.self.inside.budget;
       words = c.self.inside.lexicon;
@@ -51,7 +51,7 @@ standing-requires-clause-around c =
 
 pub standing-requires-clause-over : goal.standing-requires-clause-over
 standing-requires-clause-over c =
-    let inside : State = record {
+    let inside : Stored = record {
       grammar = c.self.inside.grammar;
       budget = c.self.inside.budget;
       words = c.self.inside.lexicon;
@@ -69,7 +69,7 @@ standing-requires-clause-over c =
 
 pub standing-requires-clause-plain : goal.standing-requires-clause-plain
 standing-requires-clause-plain c =
-    let inside : State = record {
+    let inside : Stored = record {
       grammar = c.self.inside.grammar;
       budget = c.self.inside.budget;
       words = c.self.inside.lexicon;
@@ -87,7 +87,7 @@ standing-requires-clause-plain c =
 
 pub index_mut-requires : goal.index_mut-requires
 index_mut-requires c =
-    let inside : State = record {
+    let inside : Stored = record {
       grammar = c.self.inside.grammar;
       budget = c.self.inside.budget;
       words = c.self.inside.lexicon;
@@ -104,7 +104,7 @@ index_mut-requires c =
 
 pub set-requires : goal.set-requires
 set-requires c =
-    let inside : State = record {
+    let inside : Stored = record {
       grammar = c.self.inside.grammar;
       budget = c.self.inside.budget;
       words = c.self.inside.lexicon;
@@ -122,7 +122,7 @@ set-requires c =
 
 pub invariant_of-self : goal.invariant_of-self
 invariant_of-self c =
-    let inside : State = record {
+    let inside : Stored = record {
       grammar = c.self.inside.grammar;
       budget = c.self.inside.budget;
       words = c.self.inside.lexicon;
@@ -168,7 +168,7 @@ invariant_of-self c =
 
 pub returns-clause-status : goal.returns-clause-status
 returns-clause-status c =
-    let inside : State = record {
+    let inside : Stored = record {
       grammar = c.self.inside.grammar;
       budget = c.self.inside.budget;
       words = c.self.inside.lexicon;
@@ -195,7 +195,7 @@ returns-clause-status c =
 
 pub returns-clause-after : goal.returns-clause-after
 returns-clause-after c =
-    let inside : State = record {
+    let inside : Stored = record {
       grammar = c.self.inside.grammar;
       budget = c.self.inside.budget;
       words = c.self.inside.lexicon;
@@ -212,7 +212,7 @@ returns-clause-after c =
 
 pub returns-clause-spent : goal.returns-clause-spent
 returns-clause-spent c =
-    let inside : State = record {
+    let inside : Stored = record {
       grammar = c.self.inside.grammar;
       budget = c.self.inside.budget;
       words = c.self.inside.lexicon;

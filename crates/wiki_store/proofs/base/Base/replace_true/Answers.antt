@@ -5,7 +5,7 @@ use Rattle.logic_terms.specs.Concept.{Claim}
 use Rattle.logic_terms.specs.Interpretation.{Interpretation}
 use Rattle.logic_terms.specs.Reading.{IsModel}
 use Rattle.logic_terms.specs.Shown.{claims_of}
-use Rattle.reasoner.specs.Verdicts.{IsFiniteModel}
+use Rattle.plain_wiki.specs.Knowledge.{IsFiniteModel, live_names}
 use Rattle.owl_eval.specs.Checked.{kept_interp, kept_claims}
 use Rattle.wiki_talk.specs.declared.statuses.Status.{Status}
 use Rattle.wiki_talk.specs.declared.statuses.Status.TheVariants.{Asserted}
@@ -13,13 +13,12 @@ use Rattle.articles.specs.declared.sentences.Sentence.{Sentence}
 use Rattle.articles.specs.declared.article.Article.{Article}
 use Rattle.articles.specs.Articles.{AreInOrder}
 use Rattle.wiki_parts.specs.declared.meanings.Sense.{Sense}
-use Rattle.wiki_parts.specs.State.{State}
+use Rattle.plain_wiki.specs.Stored.{Stored}
 use Rattle.wiki_parts.specs.Holding.{Holding}
 use Rattle.wiki_parts.specs.Found.{meaning_shown}
-use Rattle.wiki_parts.specs.Knowledge.{live_names}
 use Rattle.wiki_parts.specs.Kept.{stated_by, known_around, Stands}
 use Rattle.wiki_store.specs.Settled.{IsTrueIn}
-use Rattle.wiki_store.specs.Step.{with_replaced}
+use Rattle.plain_wiki.specs.Changes.{with_replaced}
 use Rattle.wiki_store.proofs.AroundLemmas.{set_parts}
 use Rattle.wiki_store.proofs.JoiningLemmas.{settled-states, settled-stands, not-red, keeps-claims}
 use Rattle.wiki_store.proofs.InsideLemmas.{item-is, spot, status_outside, keeps_inside}
@@ -27,7 +26,7 @@ use Rattle.wiki_store.proofs.base.Base.replace_true.Goals as goal
 
 pub join-requires-clause-around : goal.join-requires-clause-around
 join-requires-clause-around c =
-    let inside : State = record {
+    let inside : Stored = record {
       grammar = c.self.inside.grammar;
       budget = c.self.inside.budget;
       words = c.self.inside.lexicon;
@@ -52,7 +51,7 @@ join-requires-clause-model c =
 
 pub invariant_of-self : goal.invariant_of-self
 invariant_of-self c =
-    let inside : State = record {
+    let inside : Stored = record {
       grammar = c.self.inside.grammar;
       budget = c.self.inside.budget;
       words = c.self.inside.lexicon;
@@ -62,7 +61,7 @@ invariant_of-self c =
 
 pub returns-in_err-join-clause-memory : goal.returns-in_err-join-clause-memory
 returns-in_err-join-clause-memory c =
-    let inside : State = record {
+    let inside : Stored = record {
       grammar = c.self.inside.grammar;
       budget = c.self.inside.budget;
       words = c.self.inside.lexicon;
@@ -74,7 +73,7 @@ returns-in_err-join-clause-memory c =
 
 pub index_mut-requires : goal.index_mut-requires
 index_mut-requires c =
-    let inside : State = record {
+    let inside : Stored = record {
       grammar = c.self.inside.grammar;
       budget = c.self.inside.budget;
       words = c.self.inside.lexicon;
@@ -91,7 +90,7 @@ index_mut-requires c =
 
 pub set-requires : goal.set-requires
 set-requires c =
-    let inside : State = record {
+    let inside : Stored = record {
       grammar = c.self.inside.grammar;
       budget = c.self.inside.budget;
       words = c.self.inside.lexicon;
@@ -109,7 +108,7 @@ set-requires c =
 
 pub invariant_of-self-2 : goal.invariant_of-self-2
 invariant_of-self-2 c =
-    let inside : State = record {
+    let inside : Stored = record {
       grammar = c.self.inside.grammar;
       budget = c.self.inside.budget;
       words = c.self.inside.lexicon;
@@ -153,7 +152,7 @@ invariant_of-self-2 c =
 
 pub returns-clause-status : goal.returns-clause-status
 returns-clause-status c =
-    let inside : State = record {
+    let inside : Stored = record {
       grammar = c.self.inside.grammar;
       budget = c.self.inside.budget;
       words = c.self.inside.lexicon;
@@ -189,7 +188,7 @@ returns-clause-status c =
 
 pub returns-clause-after : goal.returns-clause-after
 returns-clause-after c =
-    let inside : State = record {
+    let inside : Stored = record {
       grammar = c.self.inside.grammar;
       budget = c.self.inside.budget;
       words = c.self.inside.lexicon;

@@ -10,11 +10,12 @@ use Rattle.articles.specs.declared.sentences.Sentence.{Sentence}
 use Rattle.articles.specs.declared.article.Article.{Article}
 use Rattle.articles.specs.Articles.{AreInOrder, with_status}
 use Rattle.wiki_parts.specs.declared.meanings.Sense.{Sense}
-use Rattle.wiki_parts.specs.State.{State}
+use Rattle.plain_wiki.specs.Stored.{Stored}
 use Rattle.wiki_parts.specs.Found.{meaning_shown}
-use Rattle.wiki_parts.specs.Knowledge.{is_asserted, live_names, GetStatus}
+use Rattle.plain_wiki.specs.Knowledge.{is_asserted, live_names}
+use Rattle.wiki_parts.specs.Spent.{GetStatus}
 use Rattle.wiki_parts.specs.Kept.{stated_by, known_around, Stands, IsKeeping}
-use Rattle.wiki_store.specs.Step.{with_marked}
+use Rattle.plain_wiki.specs.Changes.{with_marked}
 use Rattle.wiki_store.proofs.AroundLemmas.{item, parts_at}
 use Rattle.wiki_store.proofs.JudgeLemmas.{marked-spliced}
 use Rattle.wiki_store.proofs.InsideLemmas.{item-is, set-same, moved, spot, spot_known, sentence_here, means_here, short_here, over_inside, plain_inside, status_outside, spends_outside, keeps_inside}
@@ -22,7 +23,7 @@ use Rattle.wiki_store.proofs.base.Base.restate_judged.Goals as goal
 
 pub index-requires : goal.index-requires
 index-requires c =
-    let inside : State = record {
+    let inside : Stored = record {
       grammar = c.self.inside.grammar;
       budget = c.self.inside.budget;
       words = c.self.inside.lexicon;
@@ -39,7 +40,7 @@ index-requires c =
 
 pub get-requires : goal.get-requires
 get-requires c =
-    let inside : State = record {
+    let inside : Stored = record {
       grammar = c.self.inside.grammar;
       budget = c.self.inside.budget;
       words = c.self.inside.lexicon;
@@ -57,7 +58,7 @@ get-requires c =
 
 pub standing-requires-clause-around : goal.standing-requires-clause-around
 standing-requires-clause-around c =
-    let inside : State = record {
+    let inside : Stored = record {
       grammar = c.self.inside.grammar;
       budget = c.self.inside.budget;
       words = c.self.inside.lexicon;
@@ -72,7 +73,7 @@ standing-requires-clause-around c =
 
 pub standing-requires-clause-known : goal.standing-requires-clause-known
 standing-requires-clause-known c =
-    let inside : State = record {
+    let inside : Stored = record {
       grammar = c.self.inside.grammar;
       budget = c.self.inside.budget;
       words = c.self.inside.lexicon;
@@ -96,7 +97,7 @@ standing-requires-clause-known c =
 
 pub standing-requires-clause-over : goal.standing-requires-clause-over
 standing-requires-clause-over c =
-    let inside : State = record {
+    let inside : Stored = record {
       grammar = c.self.inside.grammar;
       budget = c.self.inside.budget;
       words = c.self.inside.lexicon;
@@ -121,7 +122,7 @@ standing-requires-clause-over c =
 
 pub standing-requires-clause-plain : goal.standing-requires-clause-plain
 standing-requires-clause-plain c =
-    let inside : State = record {
+    let inside : Stored = record {
       grammar = c.self.inside.grammar;
       budget = c.self.inside.budget;
       words = c.self.inside.lexicon;
@@ -146,7 +147,7 @@ standing-requires-clause-plain c =
 
 pub invariant_of-self : goal.invariant_of-self
 invariant_of-self c =
-    let inside : State = record {
+    let inside : Stored = record {
       grammar = c.self.inside.grammar;
       budget = c.self.inside.budget;
       words = c.self.inside.lexicon;
@@ -196,7 +197,7 @@ invariant_of-self c =
 
 pub invariant_of-self-in_default : goal.invariant_of-self-in_default
 invariant_of-self-in_default c =
-    let inside : State = record {
+    let inside : Stored = record {
       grammar = c.self.inside.grammar;
       budget = c.self.inside.budget;
       words = c.self.inside.lexicon;
@@ -246,7 +247,7 @@ invariant_of-self-in_default c =
 
 pub returns-in-Some-clause-status : goal.returns-in-Some-clause-status
 returns-in-Some-clause-status c =
-    let inside : State = record {
+    let inside : Stored = record {
       grammar = c.self.inside.grammar;
       budget = c.self.inside.budget;
       words = c.self.inside.lexicon;
@@ -287,7 +288,7 @@ returns-in-Some-clause-status c =
 
 pub returns-in-Some-clause-spent : goal.returns-in-Some-clause-spent
 returns-in-Some-clause-spent c =
-    let inside : State = record {
+    let inside : Stored = record {
       grammar = c.self.inside.grammar;
       budget = c.self.inside.budget;
       words = c.self.inside.lexicon;
@@ -326,7 +327,7 @@ returns-in-Some-clause-spent c =
 
 pub returns-in_default-clause-status : goal.returns-in_default-clause-status
 returns-in_default-clause-status c =
-    let inside : State = record {
+    let inside : Stored = record {
       grammar = c.self.inside.grammar;
       budget = c.self.inside.budget;
       words = c.self.inside.lexicon;
@@ -367,7 +368,7 @@ returns-in_default-clause-status c =
 
 pub returns-in_default-clause-spent : goal.returns-in_default-clause-spent
 returns-in_default-clause-spent c =
-    let inside : State = record {
+    let inside : Stored = record {
       grammar = c.self.inside.grammar;
       budget = c.self.inside.budget;
       words = c.self.inside.lexicon;

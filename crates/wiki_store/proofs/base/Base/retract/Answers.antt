@@ -6,14 +6,14 @@ use Rattle.owl_eval.specs.Checked.{kept_interp, kept_claims}
 use Rattle.wiki_parts.specs.declared.meanings.Sense.{Sense}
 use Rattle.wiki_parts.specs.Holding.{Holding}
 use Rattle.wiki_parts.specs.Kept.{known_around, known_in, IsAround, IsKeeping}
-use Rattle.wiki_parts.specs.Refusing.{may_retract}
-use Rattle.wiki_parts.specs.State.{State}
+use Rattle.plain_wiki.specs.Knowledge.{is_asserted}
+use Rattle.plain_wiki.specs.Stored.{Stored}
 use Rattle.wiki_store.proofs.ChangeLemmas.{place-within, around-within, keeps_marked}
 use Rattle.wiki_store.proofs.base.Base.retract.Goals as goal
 
 pub leave-requires-clause-around : goal.leave-requires-clause-around
 leave-requires-clause-around c =
-    let inside : State = record {
+    let inside : Stored = record {
       grammar = c.self.inside.grammar;
       budget = c.self.inside.budget;
       words = c.self.inside.lexicon;
@@ -38,7 +38,7 @@ leave-requires-clause-known c =
 
 pub invariant_of-self : goal.invariant_of-self
 invariant_of-self c =
-    let inside : State = record {
+    let inside : Stored = record {
       grammar = c.self.inside.grammar;
       budget = c.self.inside.budget;
       words = c.self.inside.lexicon;
@@ -57,7 +57,7 @@ invariant_of-self c =
     let claims : kept_claims c.leave.new.kept ≡ known_around inside.articles senses place at [] (at + 1) =
     c.leave.ensures.left ∙ ap (λ (articles : List Article). known_around articles c.deref.result.now place at [] (at + 1)) c.as_slice.ensures.articles
     ∙ ap (λ (kept : List (List Sense)). known_around inside.articles kept place at [] (at + 1)) c.deref.ensures.value in
-    let may = subst (λ (h : Holding). IsSomeAnd (sentence_at h.state.articles word at) (λ sentence. may_retract sentence.status ≡ true)) (sym c.self.view_is)
+    let may = subst (λ (h : Holding). IsSomeAnd (sentence_at h.state.articles word at) (λ sentence. is_asserted sentence.status ≡ true)) (sym c.self.view_is)
     c.in_ok-word.ensures.may in (
       subst (λ (articles : List Article). IsKeeping (record inside { articles = articles }) senses c.leave.new.kept) (sym c.mark.ensures)
           (keeps_marked inside senses c.self.inside.kept c.self.invariant.0 c.as_slice.ensures.in_order word place at is around c.leave.new.kept claims may),

@@ -2,14 +2,15 @@ use Rattle.std.proofs.Common.{◌≡◌, Some, None, refl, ap, subst, ◌∙◌}
 use Rattle.std.proofs.lemmas.Result.{err_from_is_err_and}
 use Rattle.lexicon.specs.Words.{Listed, forms_of, with_forms, others, forms_refusal}
 use Rattle.wiki_talk.specs.declared.requests.Request.TheVariants as requests
+use Rattle.wiki_talk.specs.declared.requests.WordRequest.TheVariants as on_word
 use Rattle.wiki_parts.specs.Faults.{IsCause}
 use Rattle.wiki_parts.specs.Holding.{Holding}
-use Rattle.wiki_parts.specs.Places.{word_named}
-use Rattle.wiki_parts.specs.Refusing.{reword_cause}
-use Rattle.wiki_parts.specs.State.{IsSound}
-use Rattle.wiki_parts.specs.Words.{forms_given}
+use Rattle.plain_wiki.specs.Places.{word_named}
+use Rattle.plain_wiki.specs.Causes.{reword_cause}
+use Rattle.plain_wiki.specs.Stored.{IsSound}
+use Rattle.plain_wiki.specs.Words.{forms_given}
 use Rattle.wiki_store.specs.Rewording.{IsBroken}
-use Rattle.wiki_store.specs.Step.{Refuses}
+use Rattle.plain_wiki.specs.Step.{RefusesOnWord}
 use Rattle.wiki_store.proofs.RewordLemmas.{keeps_others, keeps_sentences, reword_free, bad_reword, broken_told, cause_fault, fault_told}
 use Rattle.wiki_store.proofs.base.Base.rewording.Goals as goal
 
@@ -25,7 +26,7 @@ returns-in_err-reword_word-clause-refused c =
     c.in_err-reword_word.ensures.refused in
     let p = err_from_is_err_and c.from_residual-in_err-reword_word.result c.from_residual-in_err-reword_word.ensures.1 in
     rw (p.1, p.2)
-    (cause_fault (reword_cause state.words word old.kind c.args.texts.now) (Refuses state (requests.Reword c.args.form.now c.args.texts.now))
+    (cause_fault (reword_cause state.words word old.kind c.args.texts.now) (RefusesOnWord state c.args.form.now (on_word.Reword c.args.texts.now))
     c.in_err-reword_word.field-0.0 cause
     (bad_reword state c.args.form.now c.args.texts.now word old named of_word))
 
@@ -58,7 +59,7 @@ returns-in_err-unbroken-clause-refused c =
     subst (λ (ws : Listed). reword_cause ws word old.kind c.args.texts.now ≡ None) same c.in_ok-reword_word.ensures.accepted in
     let p = err_from_is_err_and c.from_residual-in_err-unbroken.result c.from_residual-in_err-unbroken.ensures.1 in
     rw (p.1, p.2)
-    (fault_told (IsBroken state c.reword_word.new.lexicon) (Refuses state (requests.Reword c.args.form.now c.args.texts.now)) c.in_err-unbroken.field-0.0
+    (fault_told (IsBroken state c.reword_word.new.lexicon) (RefusesOnWord state c.args.form.now (on_word.Reword c.args.texts.now)) c.in_err-unbroken.field-0.0
     c.in_err-unbroken.ensures.refused
     (broken_told state c.args.form.now c.args.texts.now word old named of_word c.reword_word.new.lexicon is none))
 

@@ -4,7 +4,7 @@ use Rattle.articles.specs.Articles.{article_of}
 use Rattle.owl_eval.specs.Checked.{kept_interp}
 use Rattle.wiki_parts.specs.Holding.{Holding}
 use Rattle.wiki_parts.specs.Kept.{MeanEach, meanings_in}
-use Rattle.wiki_parts.specs.State.{State}
+use Rattle.plain_wiki.specs.Stored.{Stored}
 use Rattle.wiki_store.proofs.ChangeLemmas.{place-within, below-within}
 use Rattle.wiki_store.proofs.KeepingLemmas.{as_many_lists}
 use Rattle.wiki_store.proofs.ReadLemmas.{mean_there}
@@ -17,7 +17,7 @@ prove-unreachable-requires c =
 
 pub returns : goal.returns
 returns c = λ article found.
-    let inside : State = record {
+    let inside : Stored = record {
       grammar = c.self.inside.grammar;
       budget = c.self.inside.budget;
       words = c.self.inside.lexicon;

@@ -3,8 +3,8 @@ use Rattle.wiki_base.specs.declared.numbers.Place.{Place}
 use Rattle.lexicon.specs.Words.{Listed, forms_of, without_word}
 use Rattle.wiki_talk.specs.declared.refusals.Refusal.TheVariants.{InUse}
 use Rattle.wiki_parts.specs.Holding.{Holding}
-use Rattle.wiki_parts.specs.Refusing.{uses_word, TellsPlace}
-use Rattle.wiki_parts.specs.State.{IsSound}
+use Rattle.plain_wiki.specs.Causes.{uses_word, TellsPlace}
+use Rattle.plain_wiki.specs.Stored.{IsSound}
 use Rattle.wiki_store.proofs.UnwordLemmas.{some_of, word-lives, told-found, none-found, unword-refuses, removed-there}
 use Rattle.wiki_store.proofs.base.Base.unwording.Goals as goal
 

@@ -4,11 +4,11 @@ use Rattle.codeco_terms.specs.GrammarParts.{GrammarParts}
 use Rattle.articles.specs.declared.article.Article.{Article}
 use Rattle.articles.specs.Articles.{article_of}
 use Rattle.sessions.specs.Sessions.{PlainSession}
-use Rattle.wiki_parts.specs.State as parts
+use Rattle.plain_wiki.specs.Stored.{Stored, first_stored}
 
 pub record State : Type 0 where
   -- the grammar, the budget, the words and the articles
-  pub pages : parts.State
+  pub stored : Stored
   -- the sessions, in order of their numbers
   pub sessions : List PlainSession
   -- the last number that was given to a session
@@ -16,7 +16,7 @@ pub record State : Type 0 where
 
 -- the wiki without words and sessions
 abbrev pub first_state : GrammarParts → ℕ → State
-first_state grammar budget = record { pages = parts.first_state grammar budget; sessions = []; last = 0 }
+first_state grammar budget = record { stored = first_stored grammar budget; sessions = []; last = 0 }
 
 -- the session is on an article that is there, at a revision that the article has had
 pub record IsOnArticle (articles : List Article) (session : PlainSession) : Type 0 where

@@ -7,18 +7,18 @@ use Rattle.lexicon.specs.Words.{owner}
 use Rattle.articles.specs.declared.sentences.Sentence.{Sentence}
 use Rattle.articles.specs.declared.article.Article.{Article}
 use Rattle.articles.specs.Articles.{article_of, sentence_at}
-use Rattle.wiki_parts.specs.State.{State}
+use Rattle.plain_wiki.specs.Stored.{Stored}
 
 -- the live word that has the form
-abbrev pub word_named : State → List ℕ → Option WordId
+abbrev pub word_named : Stored → List ℕ → Option WordId
 word_named state text = owner state.words.live text
 
 -- the article of the live word that has the form
-abbrev pub article_named : State → List ℕ → Option Article
+abbrev pub article_named : Stored → List ℕ → Option Article
 article_named state text = option_and_then (article_of state.articles) (word_named state text)
 
 -- the sentence at a place of that article
-abbrev pub sentence_named : State → List ℕ → ℕ → Option Sentence
+abbrev pub sentence_named : Stored → List ℕ → ℕ → Option Sentence
 sentence_named state text place = option_and_then (λ word. sentence_at state.articles word place) (word_named state text)
 
 -- a sentence, the word of its article, and its place in it

@@ -12,9 +12,9 @@ use Rattle.wiki_talk.specs.declared.replies.Meant.TheVariants.{Axioms, Class, Ou
 use Rattle.wiki_talk.specs.declared.replies.SentenceView.{SentenceView}
 use Rattle.wiki_talk.specs.Statuses.{is_question}
 use Rattle.articles.specs.declared.sentences.Sentence.{Sentence}
-use Rattle.wiki_parts.specs.State.{State}
-use Rattle.wiki_parts.specs.Meanings.{Meaning, stating, outside, asking, asking_outside, Means}
-use Rattle.wiki_parts.specs.Knowledge.{Knows, live_names, Answer}
+use Rattle.plain_wiki.specs.Stored.{Stored}
+use Rattle.plain_wiki.specs.Meanings.{Meaning, stating, outside, asking, asking_outside, Means}
+use Rattle.plain_wiki.specs.Knowledge.{Spending, Knows, live_names, Answer}
 
 -- the canonical forms of words
 abbrev pub spelled : Listed → List WordId → List (List ℕ)
@@ -28,14 +28,14 @@ told_meaning words (asking concept) = Class (class_text (canonical_form_of words
 told_meaning words (asking_outside cause) = Outside cause
 
 -- the names that answer the question that the tokens are, and those of which that isn't known
-pub record AreAnswersTo (state : State) (tokens answers unknown : List (List ℕ)) : Type 0 where
+pub record AreAnswersTo (spent : Spending) (state : Stored) (tokens answers unknown : List (List ℕ)) : Type 0 where
   pub concept : Concept
   pub means : Means state.grammar state.words tokens (asking concept)
   pub claims : List Claim
   pub known : Knows state claims
   pub yes : List WordId
   pub doubtful : List WordId
-  pub answer : Answer claims (live_names state.words) state.budget concept yes doubtful
+  pub answer : Answer spent claims (live_names state.words) state.budget concept yes doubtful
   pub answers_told : answers ≡ spelled state.words yes
   pub unknown_told : unknown ≡ spelled state.words doubtful
 
@@ -44,11 +44,11 @@ abbrev pub TellsNoName : SentenceView → Type 0
 TellsNoName view = (view.answers ≡ []) × (view.unknown ≡ [])
 
 -- a sentence as it is told: its status, its text, and, of a question for a class, its answers as of now
-pub record TellsSentence (state : State) (sentence : Sentence) (view : SentenceView) : Type 0 where
+pub record TellsSentence (spent : Spending) (state : Stored) (sentence : Sentence) (view : SentenceView) : Type 0 where
   pub status : view.status ≡ sentence.status
   pub text : view.text ≡ shown state.grammar.terminals sentence.tokens
-  pub names : MatchBool (is_question sentence.status) (AreAnswersTo state sentence.tokens view.answers view.unknown) (TellsNoName view)
+  pub names : MatchBool (is_question sentence.status) (AreAnswersTo spent state sentence.tokens view.answers view.unknown) (TellsNoName view)
 
 -- sentences as they are told, one after another
-abbrev pub TellsSentences : State → List Sentence → List SentenceView → Type 0
-TellsSentences state sentences views = AllZip (TellsSentence state) sentences views
+abbrev pub TellsSentences : Spending → Stored → List Sentence → List SentenceView → Type 0
+TellsSentences spent state sentences views = AllZip (TellsSentence spent state) sentences views

@@ -1,0 +1,11 @@
+pub mod Causes
+pub mod Changes
+pub mod Knowledge
+pub mod Meanings
+pub mod Parsing
+pub mod Places
+pub mod State
+pub mod Step
+pub mod Stored
+pub mod Telling
+pub mod Words

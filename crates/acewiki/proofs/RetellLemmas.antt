@@ -1,5 +1,5 @@
 -- Commands that write a text about the wiki behind the lines of the input.
-use Rattle.std.proofs.Common.{◌≡◌, ℕ, List, [], Option, refl, subst}
+use Rattle.std.proofs.Common.{◌≡◌, ℕ, List, Option, refl, subst}
 use Rattle.std.specs.Prelude.{Result, Ok, Err, IfOk}
 use Rattle.wiki_io.proofs.KnownLemmas.{Appends-nil}
 use Rattle.acewiki.specs.declared.command.Outcome.{Outcome}
@@ -7,7 +7,7 @@ use Rattle.acewiki.specs.declared.command.Outcome.TheVariants as outcomes
 use Rattle.acewiki.specs.Lines.{StepsLines}
 use Rattle.acewiki.specs.Steps.{StepsInput, EndsWriting}
 use Rattle.acewiki.specs.Theorem.{EndsReading, EndsRetelling, Retells}
-use Rattle.acewiki.specs.Wiki.{Holding}
+use Rattle.acewiki.specs.Wiki.{Holding, Recalling}
 use Rattle.acewiki.proofs.ServeLemmas.{StepsInput-none}
 
 -- a text that was written is one of those that are asked for
@@ -29,26 +29,26 @@ ends_so IsText (Err none) outcomes.LinkFault taken taken_after is ends = absurd 
 ends_so IsText (Err none) outcomes.TooMuch taken taken_after is ends = absurd ends
 
 -- all lines were stepped, and then the text was written
-pub Retells-written : {E : Type 0} (IsText : Holding → List ℕ → Type 0) (first : Holding) (left taken : Option (List ℕ)) (read_so outcome : Outcome)
-    (left_after taken_after : Option (List ℕ)) (wiki : Holding) (text : Result (List ℕ) E) → read_so ≡ outcomes.Done
+pub Retells-written : {E : Type 0} (IsText : Holding → List ℕ → Type 0) (first : Recalling) (left taken : Option (List ℕ)) (read_so outcome : Outcome)
+    (left_after taken_after : Option (List ℕ)) (wiki : Recalling) (text : Result (List ℕ) E) → read_so ≡ outcomes.Done
     → StepsInput first left read_so left_after wiki
-    → IfOk text (IsText wiki) → EndsWriting text outcome taken taken_after → Retells IsText first left taken outcome left_after taken_after
+    → IfOk text (IsText wiki.wiki) → EndsWriting text outcome taken taken_after → Retells IsText first left taken outcome left_after taken_after
 Retells-written IsText first left taken read_so outcome left_after taken_after wiki text done input is ends = record {
   read_so = outcomes.Done;
   lines = read.lines;
   reads = read.reads;
   exchanges = read.exchanges;
   last = wiki;
-  steps = subst (λ (reached : Holding). StepsLines first read.lines read.exchanges reached) (read.last_is refl) read.steps;
-  ends = ends_so (IsText wiki) text outcome taken taken_after is ends;
+  steps = subst (λ (reached : Recalling). StepsLines first read.lines read.exchanges reached) (read.last_is refl) read.steps;
+  ends = ends_so (IsText wiki.wiki) text outcome taken taken_after is ends;
 }
   where
     read : StepsInput first left outcomes.Done left_after wiki
     read = subst (λ (o : Outcome). StepsInput first left o left_after wiki) done input
 
 -- reading ended before, and nothing was written
-pub Retells-stopped : (IsText : Holding → List ℕ → Type 0) (first : Holding) (left taken : Option (List ℕ)) (outcome : Outcome)
-    (left_after : Option (List ℕ)) (wiki : Holding) → StepsInput first left outcome left_after wiki
+pub Retells-stopped : (IsText : Holding → List ℕ → Type 0) (first : Recalling) (left taken : Option (List ℕ)) (outcome : Outcome)
+    (left_after : Option (List ℕ)) (wiki : Recalling) → StepsInput first left outcome left_after wiki
     → (outcome ≡ outcomes.Done → ⊥) → (outcome ≡ outcomes.WriteFault → ⊥) → Retells IsText first left taken outcome left_after taken
 Retells-stopped IsText first left taken outcome left_after wiki input not_done not_write = record {
   read_so = outcome;
@@ -61,7 +61,7 @@ Retells-stopped IsText first left taken outcome left_after wiki input not_done n
 }
   where
     ends : (o : Outcome) → EndsReading o input.reads.read left_after input.lines → (o ≡ outcomes.Done → ⊥) → (o ≡ outcomes.WriteFault → ⊥)
-        → EndsRetelling (IsText input.reached) o o taken taken
+        → EndsRetelling (IsText input.reached.wiki) o o taken taken
     ends outcomes.Done reads done write = absurd (done refl)
     ends outcomes.Usage reads done write = absurd reads
     ends outcomes.ReadFault reads done write = Appends-nil taken
@@ -71,7 +71,7 @@ Retells-stopped IsText first left taken outcome left_after wiki input not_done n
     ends outcomes.Memory reads done write = Appends-nil taken
 
 -- there was no memory for a wiki
-pub Retells-none : (IsText : Holding → List ℕ → Type 0) (first : Holding) (left taken : Option (List ℕ))
+pub Retells-none : (IsText : Holding → List ℕ → Type 0) (first : Recalling) (left taken : Option (List ℕ))
     → Retells IsText first left taken outcomes.Memory left taken
 Retells-none IsText first left taken =
     Retells-stopped IsText first left taken outcomes.Memory left first (StepsInput-none first left first) (λ is. cc is) (λ is. cc is)

@@ -12,12 +12,12 @@ use Rattle.wiki_io.specs.Lines.{InputLine, input_lines, Begins, AreKnown, AreRea
 use Rattle.wiki_io.specs.Reading.{Reading, unread, answered, ReadsLine, HasNoLine, HasGivenFrom}
 use Rattle.wiki_io.proofs.KnownLemmas.{Appends-nil, Appends-trans, Appends-kept, Consumes-nil}
 use Rattle.wiki_io.proofs.ReadingLemmas.{HasGivenFrom-unread, HasGivenFrom-call, HasGiven-end, HasGiven-fault, HasGiven-known, AreKnown-front}
-use Rattle.wiki_talk.specs.declared.requests.Request.{Request}
+use Rattle.wiki_talk.specs.declared.requests.LineRequest.{LineRequest}
 use Rattle.wiki_talk.specs.declared.replies.Reply.{Reply}
 use Rattle.wiki_talk.specs.Turns.{Exchange, answered as answered_by, request_in}
 use Rattle.wire_json.specs.Replies.{reply_line}
 use Rattle.wiki_talk.proofs.TurnLemmas.{Turns-push}
-use Rattle.acewiki.specs.Wiki.{Holding, KeptStep}
+use Rattle.acewiki.specs.Wiki.{Recalling, KeptTurn}
 use Rattle.acewiki.specs.declared.command.Outcome.{Outcome}
 use Rattle.acewiki.specs.declared.command.Outcome.TheVariants.{Done, ReadFault, WriteFault, TooMuch, Memory}
 use Rattle.acewiki.specs.Lines.{asked, told, reply_lines, StepsLine, StepsLines, RepliesTo, WasStepped, AnswersLine, BeginsAnswer, CutsLine}
@@ -26,45 +26,46 @@ use Rattle.acewiki.specs.Theorem.{EndsReading, but_last, Replays}
 -- ---- one line
 
 -- what a step on the request of a line is to the line
-pub RepliesTo-step : (old : Holding) (line : InputLine) (new : Holding) (request : Request) (bytes : List ℕ) → Some request ≡ asked line
-    → (reply : Reply) × KeptStep old request reply new × (bytes ≡ reply_line reply) → RepliesTo old line new bytes
+pub RepliesTo-step : (old : Recalling) (line : InputLine) (new : Recalling) (request : LineRequest) (bytes : List ℕ) → Some request ≡ asked line
+    → (reply : Reply) × KeptTurn old request reply new × (bytes ≡ reply_line reply) → RepliesTo old line new bytes
 RepliesTo-step old line new request bytes is_asked stepped = record {
   exchange = answered_by request stepped.0;
   steps = record { asked_now = is_asked; turn = stepped.1 };
   is_told = stepped.2;
 }
 
-pub WasStepped-step : (old : Holding) (line : InputLine) (new : Holding) (request : Request) → Some request ≡ asked line
-    → (new ≡ old) ⊎ ((reply : Reply) × KeptStep old request reply new) → WasStepped old line new
+pub WasStepped-step : (old : Recalling) (line : InputLine) (new : Recalling) (request : LineRequest) → Some request ≡ asked line
+    → (new ≡ old) ⊎ ((reply : Reply) × KeptTurn old request reply new) → WasStepped old line new
 WasStepped-step old line new request is_asked (inl same) = inl same
 WasStepped-step old line new request is_asked (inr stepped) = inr (answered_by request stepped.0, record { asked_now = is_asked; turn = stepped.1 })
 
 -- ---- one more line
 
-StepsLines-none : (first : Holding) → StepsLines first [] [] first
+StepsLines-none : (first : Recalling) → StepsLines first [] [] first
 StepsLines-none first = record { asked_then = refl; turns = refl }
 
-StepsLines-push : (first : Holding) (lines : List InputLine) (line : InputLine) (exchanges : List (Exchange Request Reply)) (exchange : Exchange Request Reply)
-    (before last : Holding)
+StepsLines-push : (first : Recalling) (lines : List InputLine) (line : InputLine) (exchanges : List (Exchange LineRequest Reply))
+    (exchange : Exchange LineRequest Reply)
+    (before last : Recalling)
     → StepsLines first lines exchanges before → StepsLine before line exchange last → StepsLines first (lines ++ line ∷ []) (exchanges ++ exchange ∷ []) last
 StepsLines-push first lines line exchanges exchange before last steps one = record {
   asked_then = map_push request_in exchanges exchange ∙ ap (λ l. l ++ request_in exchange ∷ []) steps.asked_then
       ∙ ap (λ o. map asked lines ++ o ∷ []) one.asked_now ∙ sym (map_push asked lines line);
-  turns = Turns-push KeptStep first exchanges exchange before last steps.turns one.turn;
+  turns = Turns-push KeptTurn first exchanges exchange before last steps.turns one.turn;
 }
 
-reply_lines-push : (exchanges : List (Exchange Request Reply)) (exchange : Exchange Request Reply)
+reply_lines-push : (exchanges : List (Exchange LineRequest Reply)) (exchange : Exchange LineRequest Reply)
     → reply_lines (exchanges ++ exchange ∷ []) ≡ reply_lines exchanges ++ told exchange
 reply_lines-push exchanges exchange = flat_map-append told exchanges (exchange ∷ [])
     ∙ ap (λ (l : List ℕ). reply_lines exchanges ++ l) (append-nil (told exchange))
 
-but_last-push : (exchanges : List (Exchange Request Reply)) (exchange : Exchange Request Reply) → but_last (exchanges ++ exchange ∷ []) ≡ exchanges
+but_last-push : (exchanges : List (Exchange LineRequest Reply)) (exchange : Exchange LineRequest Reply) → but_last (exchanges ++ exchange ∷ []) ≡ exchanges
 but_last-push exchanges exchange =
     let size : length (exchanges ++ exchange ∷ []) - 1 ≡ length exchanges = omega (arith, length-append exchanges (exchange ∷ [])) in
     ap (λ (k : ℕ). take k (exchanges ++ exchange ∷ [])) size ∙ take_at exchanges (exchange ∷ []) (length exchanges) refl
 
 -- the reply lines of all turns begin with those of all but the last
-whole-all : (exchanges : List (Exchange Request Reply)) → Begins (reply_lines (but_last exchanges)) (reply_lines exchanges)
+whole-all : (exchanges : List (Exchange LineRequest Reply)) → Begins (reply_lines (but_last exchanges)) (reply_lines exchanges)
 whole-all exchanges =
     let k = length exchanges - 1 in
     (reply_lines (drop k exchanges), ap reply_lines (sym (take-append-drop k exchanges)) ∙ flat_map-append told (take k exchanges) (drop k exchanges))
@@ -76,19 +77,20 @@ Begins-refl l = ([], sym (append-nil l))
 
 -- The lines that were given so far were stepped and answered, at a moment at which the input has `left` left and the
 -- reader stands so. The counts of faults have not fallen.
-pub record Running (start : Holding) (first taken_first : Option (List ℕ)) (left : Option (List ℕ)) (reader : Reading) (wiki : Holding)
+pub record Running (start : Recalling) (first taken_first : Option (List ℕ)) (left : Option (List ℕ)) (reader : Reading) (wiki : Recalling)
     (taken : Option (List ℕ)) (input_first input output_first output : ℕ) : Type 0 where
   pub given : List InputLine
   pub lines : HasGivenFrom first given reader left
   pub at_end : IsTrue reader.ended → IsAtEnd left
   pub within : reader.count ≤ MAX_INPUT
-  pub exchanges : List (Exchange Request Reply)
+  pub exchanges : List (Exchange LineRequest Reply)
   pub steps : StepsLines start given exchanges wiki
   pub sink : Appends taken_first taken (reply_lines exchanges)
   pub input_faults : input_first ≤ input
   pub output_faults : output_first ≤ output
 
-pub Running-first : (start : Holding) (first taken : Option (List ℕ)) (reader : Reading) (wiki : Holding) (input output : ℕ) → reader ≡ unread → wiki ≡ start
+pub Running-first : (start : Recalling) (first taken : Option (List ℕ)) (reader : Reading) (wiki : Recalling) (input output : ℕ) → reader ≡ unread
+    → wiki ≡ start
     → Running start first taken first reader wiki taken input input output output
 Running-first start first taken reader wiki input output fresh is_start =
     subst (λ r. Running start first taken first r wiki taken input input output output) (sym fresh)
@@ -116,7 +118,7 @@ all_read first left read bytes source at_end told = read_all bytes read left (su
 
 -- ---- one call of the reader further
 
-module _ (start : Holding) (first taken_first left : Option (List ℕ)) (old : Reading) (wiki : Holding) (taken : Option (List ℕ))
+module _ (start : Recalling) (first taken_first left : Option (List ℕ)) (old : Reading) (wiki : Recalling) (taken : Option (List ℕ))
     (input_first input output_first output : ℕ)
     (run : Running start first taken_first left old wiki taken input_first input output_first output)
     (said : Line) (new : Reading) (left_after : Option (List ℕ)) (call : ReadsLine left old said new left_after)
@@ -181,7 +183,7 @@ module _ (start : Holding) (first taken_first left : Option (List ℕ)) (old : R
     more_given = ap (λ (more : List InputLine). run.given ++ more) gives
 
     -- a reply that was cut
-    Replays-begun : (wiki_after : Holding) (taken_after : Option (List ℕ)) → BeginsAnswer wiki line taken wiki_after taken_after
+    Replays-begun : (wiki_after : Recalling) (taken_after : Option (List ℕ)) → BeginsAnswer wiki line taken wiki_after taken_after
         → Replays start first taken_first WriteFault left_after taken_after
     Replays-begun wiki_after taken_after begun =
         let exchange = begun.replies.exchange in
@@ -206,12 +208,12 @@ module _ (start : Holding) (first taken_first left : Option (List ℕ)) (old : R
                 ∙ ap (λ (l : List ℕ). reply_lines run.exchanges ++ l) (sym begun.replies.is_told ∙ sym (take-append-drop begun.count begun.reply))
                 ∙ sym (append_assoc (reply_lines run.exchanges) part (drop begun.count begun.reply)),
           );
-          whole = (part, ap (λ (es : List (Exchange Request Reply)). reply_lines es ++ part) (sym (but_last-push run.exchanges exchange)));
+          whole = (part, ap (λ (es : List (Exchange LineRequest Reply)). reply_lines es ++ part) (sym (but_last-push run.exchanges exchange)));
           all = λ not _. absurd (not refl);
         }
 
     -- the line had no whole reply
-    pub Replays-cut : (outcome : Outcome) (wiki_after : Holding) (taken_after : Option (List ℕ)) → CutsLine outcome wiki line taken wiki_after taken_after
+    pub Replays-cut : (outcome : Outcome) (wiki_after : Recalling) (taken_after : Option (List ℕ)) → CutsLine outcome wiki line taken wiki_after taken_after
         → Replays start first taken_first outcome left_after taken_after
     Replays-cut WriteFault wiki_after taken_after cut = Replays-begun wiki_after taken_after cut
     Replays-cut Memory wiki_after taken_after cut =
@@ -227,7 +229,7 @@ module _ (start : Holding) (first taken_first left : Option (List ℕ)) (old : R
     Replays-cut outcome wiki_after taken_after cut = absurd cut
 
     -- a reply that was written whole
-    pub Running-line : (wiki_after : Holding) (taken_after : Option (List ℕ)) (input_after output_after : ℕ) → new.count ≤ MAX_INPUT
+    pub Running-line : (wiki_after : Recalling) (taken_after : Option (List ℕ)) (input_after output_after : ℕ) → new.count ≤ MAX_INPUT
         → AnswersLine wiki line taken wiki_after taken_after
         → input ≤ input_after → output ≤ output_after
         → Running start first taken_first left_after new wiki_after taken_after input_first input_after output_first output_after
@@ -254,7 +256,7 @@ pub at_end-call : (left left_after : Option (List ℕ)) (old new : Reading) → 
 at_end-call left left_after old new before nothing same ended = elim (nothing ended) [ inl was ↦ subst IsAtEnd (sym (same was)) (before was) | inr end ↦ end ]
 
 -- nothing was read or written yet
-pub Replays-none : (start : Holding) (left taken : Option (List ℕ)) → Replays start left taken Memory left taken
+pub Replays-none : (start : Recalling) (left taken : Option (List ℕ)) → Replays start left taken Memory left taken
 Replays-none start left taken = record {
   lines = [];
   reads = record {

@@ -9,7 +9,7 @@ use Rattle.wiki_io.specs.declared.reader.Line.{Line}
 use Rattle.wiki_io.specs.Lines.{InputLine}
 use Rattle.wiki_io.specs.Link.{with_more}
 use Rattle.wiki_io.specs.Reading.{Reading, answered, ReadsLine, HasNoLine}
-use Rattle.wiki_talk.specs.declared.requests.Request.{Request}
+use Rattle.wiki_talk.specs.declared.requests.LineRequest.{LineRequest}
 use Rattle.wiki_talk.specs.declared.replies.Reply.{Reply}
 use Rattle.wiki_talk.specs.Turns.{Exchange, answered as answered_by, no_request}
 use Rattle.wire_json.specs.Replies.{reply_line}
@@ -17,24 +17,24 @@ use Rattle.server.specs.Kept.{Kept}
 use Rattle.server.proofs.RunLemmas.{own_each}
 use Rattle.serving.specs.declared.serving.Served.{Served}
 use Rattle.serving.specs.declared.serving.Served.TheVariants as served
-use Rattle.serving.specs.Handling.{turn_in, exchange_in, response_in}
+use Rattle.serving.specs.Handling.{turn_in, response_in}
 use Rattle.serving.specs.Events.{Outside, RunsEvents, RunsAll, EndsServing as EndsServingSo, Ended}
 use Rattle.serving.proofs.ServeLemmas.{told_same}
 use Rattle.serving.proofs.DeliverLemmas.{Delivers-whole, with_more-nil}
-use Rattle.serving.proofs.EventLemmas.{RunsEvents-none, Turns-append}
-use Rattle.wiki_core.proofs.ApartLemmas.{tokens_own}
+use Rattle.serving.proofs.EventLemmas.{RunsEvents-none}
+use Rattle.turning.proofs.RunLemmas.{tokens_own_recalling}
 use Rattle.acewiki.specs.declared.command.Outcome.{Outcome}
 use Rattle.acewiki.specs.declared.command.Outcome.TheVariants as outcomes
 use Rattle.acewiki.specs.Lines.{asked, told, StepsLine, StepsLines}
 use Rattle.acewiki.specs.Steps.{StepsInput, outcome_of, ServesLink}
 use Rattle.acewiki.specs.Theorem.{Stream, Network, World, outside_of, EndsReading, Replays, AnswersAsPlainWiki, EndsAt, IsUntouched, ListensAt, EndsServing, Serves}
-use Rattle.acewiki.specs.Wiki.{Holding, KeptStep}
+use Rattle.acewiki.specs.Wiki.{Holding, Recalling, KeptStep, KeptTurn}
 use Rattle.acewiki.proofs.RunLemmas.{Running, Running-line, Replays-none, Replays-end, Replays-end_last, Replays-fault, Replays-too_large, Replays-cut}
 
 -- ---- lines that are stepped
 
 -- what was stepped, whatever was written
-steps_of : (start : Holding) (first taken : Option (List ℕ)) (outcome : Outcome) (left_after taken_after : Option (List ℕ)) (last : Holding)
+steps_of : (start : Recalling) (first taken : Option (List ℕ)) (outcome : Outcome) (left_after taken_after : Option (List ℕ)) (last : Recalling)
     (replays : Replays start first taken outcome left_after taken_after)
     → (outcome ≡ outcomes.Done → replays.last ≡ last) → StepsInput start first outcome left_after last
 steps_of start first taken outcome left_after taken_after last replays last_is = record {
@@ -47,13 +47,13 @@ steps_of start first taken outcome left_after taken_after last replays last_is =
 }
 
 -- it ended before the end of the input
-pub steps_other : (start : Holding) (first taken : Option (List ℕ)) (outcome : Outcome) (left_after taken_after : Option (List ℕ)) (last : Holding)
+pub steps_other : (start : Recalling) (first taken : Option (List ℕ)) (outcome : Outcome) (left_after taken_after : Option (List ℕ)) (last : Recalling)
     → (outcome ≡ outcomes.Done → ⊥)
     → Replays start first taken outcome left_after taken_after → StepsInput start first outcome left_after last
 steps_other start first taken outcome left_after taken_after last not_done replays =
     steps_of start first taken outcome left_after taken_after last replays (λ is. absurd (not_done is))
 
-module _ (start : Holding) (first left : Option (List ℕ)) (old : Reading) (wiki : Holding) (input_first input : ℕ)
+module _ (start : Recalling) (first left : Option (List ℕ)) (old : Reading) (wiki : Recalling) (input_first input : ℕ)
     (run : Running start first None left old wiki None input_first input 0 0)
     (said : Line) (new : Reading) (left_after : Option (List ℕ)) (call : ReadsLine left old said new left_after) (end : IsTrue new.ended → IsAtEnd left_after)
   where
@@ -63,43 +63,43 @@ module _ (start : Holding) (first left : Option (List ℕ)) (old : Reading) (wik
         (Replays-end start first None left old wiki None input_first input 0 0 run said new left_after call end none pending within at_end)
         (λ _. Replays-end_last start first None left old wiki None input_first input 0 0 run said new left_after call end none pending within at_end)
 
-    pub steps_fault : answered said new.line ≡ [] → HasNoLine new → (last : Holding) → StepsInput start first outcomes.ReadFault left_after last
+    pub steps_fault : answered said new.line ≡ [] → HasNoLine new → (last : Recalling) → StepsInput start first outcomes.ReadFault left_after last
     steps_fault none no_line last = steps_other start first None outcomes.ReadFault left_after None last (λ is. cc is)
         (Replays-fault start first None left old wiki None input_first input 0 0 run said new left_after call end none no_line)
 
-    pub steps_too_large : MAX_INPUT < new.count → (last : Holding) → StepsInput start first outcomes.TooMuch left_after last
+    pub steps_too_large : MAX_INPUT < new.count → (last : Recalling) → StepsInput start first outcomes.TooMuch left_after last
     steps_too_large large last = steps_other start first None outcomes.TooMuch left_after None last (λ is. cc is)
         (Replays-too_large start first None left old wiki None input_first input 0 0 run said new left_after call end large)
 
-    pub steps_memory : (line : InputLine) → answered said new.line ≡ line ∷ [] → (last : Holding) → StepsInput start first outcomes.Memory left_after last
+    pub steps_memory : (line : InputLine) → answered said new.line ≡ line ∷ [] → (last : Recalling) → StepsInput start first outcomes.Memory left_after last
     steps_memory line gives last = steps_other start first None outcomes.Memory left_after None last (λ is. cc is)
         (Replays-cut start first None left old wiki None input_first input 0 0 run said new left_after call end line gives outcomes.Memory wiki None
         (record { state = inl refl; written = tt }))
 
-    pub Running-step : (line : InputLine) → answered said new.line ≡ line ∷ [] → (wiki_after : Holding) (input_after : ℕ) → new.count ≤ MAX_INPUT
-        → (exchange : Exchange Request Reply) × StepsLine wiki line exchange wiki_after → input ≤ input_after
+    pub Running-step : (line : InputLine) → answered said new.line ≡ line ∷ [] → (wiki_after : Recalling) (input_after : ℕ) → new.count ≤ MAX_INPUT
+        → (exchange : Exchange LineRequest Reply) × StepsLine wiki line exchange wiki_after → input ≤ input_after
         → Running start first None left_after new wiki_after None input_first input_after 0 0
     Running-step line gives wiki_after input_after within stepped kept =
         Running-line start first None left old wiki None input_first input 0 0 run said new left_after call end line gives wiki_after None input_after 0 within
         (record { reply = told stepped.0; replies = record { exchange = stepped.0; steps = stepped.1; is_told = refl }; written = tt }) kept (omega arith)
 
 -- what a step on the request of a line is to the line
-pub stepped_request : (old : Holding) (line : InputLine) (new : Holding) (request : Request) → Some request ≡ asked line
-    → (reply : Reply) × KeptStep old request reply new
-    → (exchange : Exchange Request Reply) × StepsLine old line exchange new
+pub stepped_request : (old : Recalling) (line : InputLine) (new : Recalling) (request : LineRequest) → Some request ≡ asked line
+    → (reply : Reply) × KeptTurn old request reply new
+    → (exchange : Exchange LineRequest Reply) × StepsLine old line exchange new
 stepped_request old line new request is_asked stepped = (answered_by request stepped.0, record { asked_now = is_asked; turn = stepped.1 })
 
 -- a line that is no request changes nothing
-pub stepped_none : (old : Holding) (line : InputLine) → None ≡ asked line → (exchange : Exchange Request Reply) × StepsLine old line exchange old
+pub stepped_none : (old : Recalling) (line : InputLine) → None ≡ asked line → (exchange : Exchange LineRequest Reply) × StepsLine old line exchange old
 stepped_none old line is_asked = (no_request, record { asked_now = is_asked; turn = refl })
 
 -- ---- the headline
 
 -- lines were stepped, and then all of these events were handled
-abbrev answers_of_run : (first : Holding) (lines : List InputLine) (exchanges : List (Exchange Request Reply)) (reached : Holding)
+abbrev answers_of_run : (first : Recalling) (lines : List InputLine) (exchanges : List (Exchange LineRequest Reply)) (reached : Recalling)
     → StepsLines first lines exchanges reached
     → (outside : Outside) (events : List Event) (last : Holding) (kept : List Kept) (outside_after : Outside)
-    → RunsEvents KeptStep reached [] outside events last kept outside_after → AnswersAsPlainWiki first lines outside events outside_after
+    → RunsEvents KeptStep reached.wiki [] outside events last kept outside_after → AnswersAsPlainWiki first lines outside events outside_after
 answers_of_run first lines exchanges reached steps outside events last kept outside_after run = record {
   of_lines = exchanges;
   asked_then = steps.asked_then;
@@ -108,8 +108,8 @@ answers_of_run first lines exchanges reached steps outside events last kept outs
   turns = run.turns;
   own = own_each events (map turn_in run.handlings) kept run.turns;
   last = last;
-  run = Turns-append KeptStep first exchanges (flat_map exchange_in run.handlings) reached last steps.turns run.steps;
-  tokens = tokens_own first.state.pages.grammar;
+  run = record { mid = reached; turns = steps.turns; steps = run.steps };
+  tokens = tokens_own_recalling first.wiki.state.pages.grammar;
   journal = run.journal;
   responses = run.responses;
   whole = Delivers-whole (flat_map response_in run.handlings) outside.sent outside_after.sent outside.send_faults outside_after.send_faults run.responses;
@@ -118,7 +118,7 @@ answers_of_run first lines exchanges reached steps outside events last kept outs
 -- ---- serving that ends with the lines of the input
 
 -- nothing was read yet
-pub StepsInput-none : (start : Holding) (left : Option (List ℕ)) (last : Holding) → StepsInput start left outcomes.Memory left last
+pub StepsInput-none : (start : Recalling) (left : Option (List ℕ)) (last : Recalling) → StepsInput start left outcomes.Memory left last
 StepsInput-none start left last = steps_other start left None outcomes.Memory left None last (λ is. cc is) (Replays-none start left None)
 
 -- a command can end so before the lines of its input are all stepped
@@ -167,14 +167,14 @@ outside_same : {S K L : Type 0} (before after : World S K L) → after.output �
 outside_same {K} {L} before after output link =
     ap (λ (out : Stream K). outside_with out after.link) output ∙ ap (λ (net : Network L). outside_with before.output net) link
 
-pub Serves-stopped : {S K L : Type 0} (first : Holding) (address : List ℕ) (most : ℕ) (outcome : Outcome) (before after : World S K L) (last : Holding)
+pub Serves-stopped : {S K L : Type 0} (first : Recalling) (address : List ℕ) (most : ℕ) (outcome : Outcome) (before after : World S K L) (last : Recalling)
     → StepsInput first before.input.bytes outcome after.input.bytes last → EndsInput outcome → after.output ≡ before.output → after.link ≡ before.link
     → Serves first address most outcome before after
 Serves-stopped {L} first address most outcome before after last input ends output link =
     let outside = outside_of before in
     let answers : AnswersAsPlainWiki first input.lines outside [] outside =
-    answers_of_run first input.lines input.exchanges input.reached input.steps outside [] input.reached [] outside
-    (RunsEvents-none KeptStep input.reached [] outside) in
+    answers_of_run first input.lines input.exchanges input.reached input.steps outside [] input.reached.wiki [] outside
+    (RunsEvents-none KeptStep input.reached.wiki [] outside) in
     record {
       read_so = outcome;
       lines = input.lines;
@@ -193,17 +193,17 @@ Serves-stopped {L} first address most outcome before after last input ends outpu
 
 -- ---- serving that ends behind the lines of the input
 
-module _ {S K L : Type 0} (first last : Holding) (address : List ℕ) (most : ℕ) (before after : World S K L)
+module _ {S K L : Type 0} (first last : Recalling) (address : List ℕ) (most : ℕ) (before after : World S K L)
     (input : StepsInput first before.input.bytes outcomes.Done after.input.bytes last) where
   -- a run of events that begins where the lines end
   events_after : (events : List Event) (end : Holding) (kept : List Kept) (outside_after : Outside)
-      → RunsEvents KeptStep last [] (outside_of before) events end kept outside_after
-      → RunsEvents KeptStep input.reached [] (outside_of before) events end kept outside_after
+      → RunsEvents KeptStep last.wiki [] (outside_of before) events end kept outside_after
+      → RunsEvents KeptStep input.reached.wiki [] (outside_of before) events end kept outside_after
   events_after events end kept outside_after run =
-      subst (λ (s : Holding). RunsEvents KeptStep s [] (outside_of before) events end kept outside_after) (sym (input.last_is refl)) run
+      subst (λ (s : Recalling). RunsEvents KeptStep s.wiki [] (outside_of before) events end kept outside_after) (sym (input.last_is refl)) run
 
   abbrev answers_after : (events : List Event) (end : Holding) (kept : List Kept) (outside_after : Outside)
-      → RunsEvents KeptStep last [] (outside_of before) events end kept outside_after
+      → RunsEvents KeptStep last.wiki [] (outside_of before) events end kept outside_after
       → AnswersAsPlainWiki first input.lines (outside_of before) events outside_after
   answers_after events end kept outside_after run =
       answers_of_run first input.lines input.exchanges input.reached input.steps (outside_of before) events end kept outside_after
@@ -211,7 +211,7 @@ module _ {S K L : Type 0} (first last : Holding) (address : List ℕ) (most : �
 
   -- all events were answered
   Serves-all : (outcome : Outcome) (events : List Event) → after.link.handed ≡ with_more before.link.handed events → length events ≤ most
-      → RunsAll KeptStep last (outside_of before) events (outside_of after)
+      → RunsAll KeptStep last.wiki (outside_of before) events (outside_of after)
       → ((old : Holding) (kept : List Kept) → EndsAt outcome old kept [] (outside_of after) (outside_of after))
       → EndsServing outcomes.Done outcome address events most before after → Serves first address most outcome before after
   Serves-all outcome events are_handed few all at_last ends = record {
@@ -233,7 +233,7 @@ module _ {S K L : Type 0} (first last : Holding) (address : List ℕ) (most : �
   -- all but a last one
   Serves-but_last : (outcome : Outcome) (events handled : List Event) (event : Event) (end : Holding) (kept : List Kept) (outside_then : Outside)
       → after.link.handed ≡ with_more before.link.handed events → length events ≤ most → events ≡ handled ++ event ∷ []
-      → RunsEvents KeptStep last [] (outside_of before) handled end kept outside_then
+      → RunsEvents KeptStep last.wiki [] (outside_of before) handled end kept outside_then
       → EndsAt outcome end kept (event ∷ []) outside_then (outside_of after)
       → EndsServing outcomes.Done outcome address events most before after → Serves first address most outcome before after
   Serves-but_last outcome events handled event end kept outside_then are_handed few each run at_last ends = record {
@@ -254,7 +254,7 @@ module _ {S K L : Type 0} (first last : Holding) (address : List ℕ) (most : �
 
   Serves-ended : ListensAt address after.link → (served_so : Served) (events : List Event) → after.link.handed ≡ with_more before.link.handed events
       → length events ≤ most
-      → EndsServingSo KeptStep last most (outside_of before) events served_so after.link.coming (outside_of after)
+      → EndsServingSo KeptStep last.wiki most (outside_of before) events served_so after.link.coming (outside_of after)
       → Serves first address most (outcome_of served_so) before after
   Serves-ended listens served.Done events are_handed few ends =
       Serves-all outcomes.Done events are_handed few ends.0 (λ old kept. refl) (listens, ends.1)
@@ -273,22 +273,28 @@ module _ {S K L : Type 0} (first last : Holding) (address : List ℕ) (most : �
   Serves-unheard same same_handed =
       Serves-all outcomes.LinkFault [] (same_handed ∙ sym (with_more-nil before.link.handed)) (omega arith)
       (record {
-        last = last;
+        last = last.wiki;
         kept = [];
-        run = subst (λ (o : Outside). RunsEvents KeptStep last [] (outside_of before) [] last [] o) (sym same)
-            (RunsEvents-none KeptStep last [] (outside_of before));
+        run = subst (λ (o : Outside). RunsEvents KeptStep last.wiki [] (outside_of before) [] last.wiki [] o) (sym same)
+            (RunsEvents-none KeptStep last.wiki [] (outside_of before));
       })
       (λ old kept. refl) (inr (refl, same))
 
 -- the lines of the input, and then the link
-pub Serves-link : {S K L : Type 0} (first last : Holding) (address : List ℕ) (most : ℕ) (stepped outcome : Outcome) (before after : World S K L)
-    → stepped ≡ outcomes.Done → StepsInput first before.input.bytes stepped after.input.bytes last
-    → ServesLink last most (outside_of before) before.link.handed outcome (after.link.listens_at address) (outside_of after) after.link.handed after.link.coming
+pub Serves-link : {S K L : Type 0} (first last : Recalling) (address : List ℕ) (most : ℕ) (stepped outcome : Outcome) (before after : World S K L)
+    → stepped ≡ outcomes.Done → StepsInput first before.input.bytes stepped after.input.bytes last → (served : Holding) → served ≡ last.wiki
+    → ServesLink served most (outside_of before) before.link.handed outcome (after.link.listens_at address) (outside_of after) after.link.handed
+    after.link.coming
     → Serves first address most outcome before after
-Serves-link first last address most stepped outcome before after done input serves =
+Serves-link first last address most stepped outcome before after done input served same serves =
     let all : StepsInput first before.input.bytes outcomes.Done after.input.bytes last =
     subst (λ (o : Outcome). StepsInput first before.input.bytes o after.input.bytes last) done input in
-    elim serves [
+    let by_link =
+    subst
+    (λ (wiki : Holding). ServesLink wiki most (outside_of before) before.link.handed outcome (after.link.listens_at address) (outside_of after)
+    after.link.handed after.link.coming)
+    same serves in
+    elim by_link [
       | inl heard ↦
           let ended = heard.1.2 in
           subst (λ (o : Outcome). Serves first address most o before after) (sym heard.1.1)
@@ -326,8 +332,9 @@ served_same first most journal sent sent_then faults faults_then handed handed_t
 
 -- ---- a reply and its line
 
-pub with_line : {E : Type 0} (old : Holding) (request : Request) (new : Holding) (reply : Reply) (r : Result (List ℕ) E) → KeptStep old request reply new
+pub with_line : {E : Type 0} (old : Recalling) (request : LineRequest) (new : Recalling) (reply : Reply) (r : Result (List ℕ) E)
+    → KeptTurn old request reply new
     → IfOk r (λ line. line ≡ reply_line reply)
-    → IfOk r (λ line. (told : Reply) × KeptStep old request told new × (line ≡ reply_line told))
+    → IfOk r (λ line. (told : Reply) × KeptTurn old request told new × (line ≡ reply_line told))
 with_line old request new reply (Ok line) stepped is = (reply, stepped, is)
 with_line old request new reply (Err e) stepped is = tt

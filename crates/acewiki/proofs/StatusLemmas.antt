@@ -68,9 +68,9 @@ not_usage (serve address budget most) before after does = no_serving does.read_s
 not_usage (make count seed budget) before after does = does.0
 not_usage help before after does = does.0
 not_usage (say budget) before after does =
-    no_retelling (IsSaid does.0.last) does.0.read_so before.output.bytes after.output.bytes does.0.ends
+    no_retelling (IsSaid does.0.last.wiki) does.0.read_so before.output.bytes after.output.bytes does.0.ends
 not_usage (why article at name budget) before after does =
-    no_retelling (IsWhy budget article at name does.0.last) does.0.read_so before.output.bytes after.output.bytes does.0.ends
+    no_retelling (IsWhy budget article at name does.0.last.wiki) does.0.read_so before.output.bytes after.output.bytes does.0.ends
 
 usage_of : {S K L : Type 0} (command : Option Asked) (outcome : Outcome) (before after : World S K L) → Does command outcome before after
     → (outcome ≡ outcomes.Usage) ↔ (command ≡ None)
@@ -135,10 +135,10 @@ too_much_of (Some (make count seed budget)) before after does within = absurd do
 too_much_of (Some help) before after does within = absurd does.0
 too_much_of (Some (say budget)) before after does within =
     not_within_so before.input.bytes after.input.bytes does.0.read_so does.0.lines does.0.reads
-    (retelling_too_much (IsSaid does.0.last) does.0.read_so before.output.bytes after.output.bytes does.0.ends) within
+    (retelling_too_much (IsSaid does.0.last.wiki) does.0.read_so before.output.bytes after.output.bytes does.0.ends) within
 too_much_of (Some (why article at name budget)) before after does within =
     not_within_so before.input.bytes after.input.bytes does.0.read_so does.0.lines does.0.reads
-    (retelling_too_much (IsWhy budget article at name does.0.last) does.0.read_so before.output.bytes after.output.bytes does.0.ends) within
+    (retelling_too_much (IsWhy budget article at name does.0.last.wiki) does.0.read_so before.output.bytes after.output.bytes does.0.ends) within
 
 cause_of : {S K L : Type 0} (command : Option Asked) (outcome : Outcome) (before after : World S K L) → Does command outcome before after
     → (outcome ≡ outcomes.ReadFault → Rose before.input.faults after.input.faults)

@@ -4,12 +4,12 @@ use Rattle.std.specs.Borrow.{Bor}
 use Rattle.std.specs.Io.KnownBytes.{Keeps, Appends}
 use Rattle.std.specs.List.{flat_map}
 use Rattle.wiki_io.specs.Lines.{InputLine, text, too_long}
-use Rattle.wiki_talk.specs.declared.requests.Request.{Request}
+use Rattle.wiki_talk.specs.declared.requests.LineRequest.{LineRequest}
 use Rattle.wiki_talk.specs.declared.replies.Reply.{Reply}
 use Rattle.wiki_talk.specs.Turns.{Exchange, answered, no_request, request_in, Turn, Turns}
-use Rattle.wire_json.specs.Requests.{request_of}
+use Rattle.wire_json.specs.Requests.{line_request_of}
 use Rattle.wire_json.specs.Replies.{reply_line, bad_request_line}
-use Rattle.acewiki.specs.Wiki.{Holding, KeptStep}
+use Rattle.acewiki.specs.Wiki.{Recalling, KeptTurn}
 use Rattle.acewiki.specs.declared.command.Outcome.{Outcome}
 use Rattle.acewiki.specs.declared.command.Outcome.TheVariants.{WriteFault, Memory}
 
@@ -19,45 +19,45 @@ line_handed (Some line) = text line.now
 line_handed None = too_long
 
 -- what a line asks
-abbrev pub asked : InputLine → Option Request
-asked (text bytes) = request_of bytes
+abbrev pub asked : InputLine → Option LineRequest
+asked (text bytes) = line_request_of bytes
 asked too_long = None
 
 -- the reply line of one turn
-abbrev pub told : Exchange Request Reply → List ℕ
+abbrev pub told : Exchange LineRequest Reply → List ℕ
 told (answered request reply) = reply_line reply
 told no_request = bad_request_line
 
 -- the reply lines of turns, one after another
-abbrev pub reply_lines : List (Exchange Request Reply) → List ℕ
+abbrev pub reply_lines : List (Exchange LineRequest Reply) → List ℕ
 reply_lines exchanges = flat_map told exchanges
 
 -- a line was stepped: one turn on what it asks
-pub record StepsLine (old : Holding) (line : InputLine) (exchange : Exchange Request Reply) (new : Holding) : Type 0 where
+pub record StepsLine (old : Recalling) (line : InputLine) (exchange : Exchange LineRequest Reply) (new : Recalling) : Type 0 where
   pub asked_now : request_in exchange ≡ asked line
-  pub turn : Turn KeptStep old exchange new
+  pub turn : Turn KeptTurn old exchange new
 
 -- lines were stepped: one run on what they ask
-pub record StepsLines (first : Holding) (lines : List InputLine) (exchanges : List (Exchange Request Reply)) (last : Holding) : Type 0 where
+pub record StepsLines (first : Recalling) (lines : List InputLine) (exchanges : List (Exchange LineRequest Reply)) (last : Recalling) : Type 0 where
   pub asked_then : map request_in exchanges ≡ map asked lines
-  pub turns : Turns KeptStep first exchanges last
+  pub turns : Turns KeptTurn first exchanges last
 
 -- ---- one line
 
 -- a line was stepped, and this is its reply line
-pub record RepliesTo (old : Holding) (line : InputLine) (new : Holding) (reply : List ℕ) : Type 0 where
-  pub exchange : Exchange Request Reply
+pub record RepliesTo (old : Recalling) (line : InputLine) (new : Recalling) (reply : List ℕ) : Type 0 where
+  pub exchange : Exchange LineRequest Reply
   pub steps : StepsLine old line exchange new
   pub is_told : reply ≡ told exchange
 
 -- a line was stepped, and its reply line was written whole
-pub record AnswersLine (old : Holding) (line : InputLine) (taken : Option (List ℕ)) (new : Holding) (taken_after : Option (List ℕ)) : Type 0 where
+pub record AnswersLine (old : Recalling) (line : InputLine) (taken : Option (List ℕ)) (new : Recalling) (taken_after : Option (List ℕ)) : Type 0 where
   pub reply : List ℕ
   pub replies : RepliesTo old line new reply
   pub written : Appends taken taken_after reply
 
 -- a line was stepped, and a front part of its reply line was written
-pub record BeginsAnswer (old : Holding) (line : InputLine) (taken : Option (List ℕ)) (new : Holding) (taken_after : Option (List ℕ)) : Type 0 where
+pub record BeginsAnswer (old : Recalling) (line : InputLine) (taken : Option (List ℕ)) (new : Recalling) (taken_after : Option (List ℕ)) : Type 0 where
   pub reply : List ℕ
   pub replies : RepliesTo old line new reply
   pub count : ℕ
@@ -65,16 +65,16 @@ pub record BeginsAnswer (old : Holding) (line : InputLine) (taken : Option (List
   pub written : Appends taken taken_after (take count reply)
 
 -- a line was stepped or not
-abbrev pub WasStepped : Holding → InputLine → Holding → Type 0
-WasStepped old line new = (new ≡ old) ⊎ ((exchange : Exchange Request Reply) × StepsLine old line exchange new)
+abbrev pub WasStepped : Recalling → InputLine → Recalling → Type 0
+WasStepped old line new = (new ≡ old) ⊎ ((exchange : Exchange LineRequest Reply) × StepsLine old line exchange new)
 
 -- a line was stepped or not, and nothing was written
-pub record GivesUpLine (old : Holding) (line : InputLine) (taken : Option (List ℕ)) (new : Holding) (taken_after : Option (List ℕ)) : Type 0 where
+pub record GivesUpLine (old : Recalling) (line : InputLine) (taken : Option (List ℕ)) (new : Recalling) (taken_after : Option (List ℕ)) : Type 0 where
   pub state : WasStepped old line new
   pub written : Keeps taken taken_after
 
 -- Why a line has no whole reply line: a write failed, and a front part of the reply line was written; or there was no memory, and nothing was
-abbrev pub CutsLine : Outcome → Holding → InputLine → Option (List ℕ) → Holding → Option (List ℕ) → Type 0
+abbrev pub CutsLine : Outcome → Recalling → InputLine → Option (List ℕ) → Recalling → Option (List ℕ) → Type 0
 CutsLine WriteFault old line taken new taken_after = BeginsAnswer old line taken new taken_after
 CutsLine Memory old line taken new taken_after = GivesUpLine old line taken new taken_after
 CutsLine outcome old line taken new taken_after = ⊥

@@ -2,32 +2,34 @@
 use Rattle.std.specs.Prelude.{◌≡◌, ℕ, ◌≤◌, List, ◌++◌, All, length, map}
 use Rattle.std.specs.List.{flat_map}
 use Rattle.wiki_io.specs.Lines.{input_lines}
-use Rattle.wiki_talk.specs.declared.requests.Request.{Request}
+use Rattle.wiki_talk.specs.declared.requests.LineRequest.{LineRequest}
 use Rattle.wiki_talk.specs.declared.replies.Reply.{Reply}
 use Rattle.wiki_talk.specs.Turns.{Exchange, request_in, Turns}
 use Rattle.wire_json.specs.Told.{ended, most_line}
 use Rattle.serving.specs.Handling.{Handling, exchange_in, journal_in}
 use Rattle.wiki_core.specs.Journaled.{SpendsNone, StandAlike}
+use Rattle.turning.specs.Laws.{IsRun, exchange_of, exchanges_of}
 use Rattle.acewiki.specs.Lines.{asked}
-use Rattle.acewiki.specs.Wiki.{Holding, KeptStep, ace_wiki}
+use Rattle.acewiki.specs.Wiki.{Holding, Recalling, KeptTurn, new_wiki}
 
--- Take any run of the plain wiki over what the lines of an input ask and then what came over connections, and any run, whatever its budget,
--- over what the same input asks, its last line ended, and the journal behind it. Where no reply of the two tells that a budget was spent,
--- the second one ends with the words, the last number of a word, the articles, their revisions, their sentences and statuses with which
--- the first one ends.
+-- Take any run: turns for what the lines of an input ask, and then steps for what came over connections. And take any turns, whatever their
+-- budget, for what the same input asks, its last line ended, and the journal behind it. Where no reply of the two tells that a budget was
+-- spent, the second one ends with the words, the last number of a word, the articles, their revisions, their sentences and statuses with
+-- which the first one ends.
 abbrev pub StandsAsRead : Type 0
 StandsAsRead =
-    (budget its_budget : ℕ) (former : List ℕ) (of_lines again : List (Exchange Request Reply)) (handlings : List Handling) (last its_last : Holding)
+    (budget its_budget : ℕ) (former : List ℕ) (of_lines again : List (Exchange LineRequest Reply)) (handlings : List Handling) (last : Holding)
+    (its_last : Recalling)
     → map request_in of_lines ≡ map asked (input_lines former)
-    → Turns KeptStep (ace_wiki budget) (of_lines ++ flat_map exchange_in handlings) last
+    → IsRun (new_wiki budget) of_lines (flat_map exchange_in handlings) last
     → map request_in again ≡ map asked (input_lines (ended former ++ flat_map journal_in handlings))
-    → Turns KeptStep (ace_wiki its_budget) again its_last
-    → SpendsNone (of_lines ++ flat_map exchange_in handlings) → SpendsNone again
-    → StandAlike last.state.pages its_last.state.pages
+    → Turns KeptTurn (new_wiki its_budget) again its_last
+    → SpendsNone (exchanges_of of_lines (flat_map exchange_in handlings)) → SpendsNone (map exchange_of again)
+    → StandAlike last.state.pages its_last.wiki.state.pages
 
 -- In each such run what an event writes to the journal has at most `most_line` bytes, however long the text was that was sent.
 abbrev pub WritesShortLines : Type 0
 WritesShortLines =
-    (budget : ℕ) (of_lines : List (Exchange Request Reply)) (handlings : List Handling) (last : Holding)
-    → Turns KeptStep (ace_wiki budget) (of_lines ++ flat_map exchange_in handlings) last
+    (budget : ℕ) (of_lines : List (Exchange LineRequest Reply)) (handlings : List Handling) (last : Holding)
+    → IsRun (new_wiki budget) of_lines (flat_map exchange_in handlings) last
     → All (λ handling. length (journal_in handling) ≤ most_line) handlings

@@ -3,7 +3,7 @@ use Rattle.std.specs.Prelude.{◌≡◌, ◌⊎◌, ◌≤◌, ℕ, Bool, IsTrue
 use Rattle.std.specs.Io.KnownBytes.{Appends}
 use Rattle.wiki_io.specs.declared.links.Event.{Event}
 use Rattle.wiki_io.specs.Lines.{InputLine}
-use Rattle.wiki_talk.specs.declared.requests.Request.{Request}
+use Rattle.wiki_talk.specs.declared.requests.LineRequest.{LineRequest}
 use Rattle.wiki_talk.specs.declared.replies.Reply.{Reply}
 use Rattle.wiki_talk.specs.Turns.{Exchange}
 use Rattle.serving.specs.declared.serving.Served.{Served}
@@ -15,14 +15,14 @@ use Rattle.acewiki.specs.declared.command.Outcome.{Outcome}
 use Rattle.acewiki.specs.declared.command.Outcome.TheVariants as outcomes
 use Rattle.acewiki.specs.Lines.{StepsLines}
 use Rattle.acewiki.specs.Theorem.{ReadsLines}
-use Rattle.acewiki.specs.Wiki.{Holding, KeptStep}
+use Rattle.acewiki.specs.Wiki.{Holding, Recalling, KeptStep}
 
 -- the lines that were read were stepped, and nothing was written; where that is done, the wiki is left in the state `last`
-pub record StepsInput (first : Holding) (left : Option (List ℕ)) (outcome : Outcome) (left_after : Option (List ℕ)) (last : Holding) : Type 0 where
+pub record StepsInput (first : Recalling) (left : Option (List ℕ)) (outcome : Outcome) (left_after : Option (List ℕ)) (last : Recalling) : Type 0 where
   pub lines : List InputLine
   pub reads : ReadsLines left outcome left_after lines
-  pub exchanges : List (Exchange Request Reply)
-  pub reached : Holding
+  pub exchanges : List (Exchange LineRequest Reply)
+  pub reached : Recalling
   pub steps : StepsLines first lines exchanges reached
   pub last_is : outcome ≡ outcomes.Done → reached ≡ last
 

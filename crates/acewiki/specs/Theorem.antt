@@ -7,9 +7,9 @@ use Rattle.wiki_io.specs.declared.links.Event.{Event}
 use Rattle.wiki_io.specs.Faults.{Rose}
 use Rattle.wiki_io.specs.Lines.{InputLine, input_lines, Begins, AreKnown, AreReadLines}
 use Rattle.wiki_io.specs.Link.{with_more, sent_on, IsOver}
-use Rattle.wiki_talk.specs.declared.requests.Request.{Request}
+use Rattle.wiki_talk.specs.declared.requests.LineRequest.{LineRequest}
 use Rattle.wiki_talk.specs.declared.replies.Reply.{Reply}
-use Rattle.wiki_talk.specs.Turns.{Exchange, request_in, Turns}
+use Rattle.wiki_talk.specs.Turns.{Exchange, request_in}
 use Rattle.server.specs.Kept.{Kept}
 use Rattle.server.specs.Runs.{TakesAll, AreOwn}
 use Rattle.serving.specs.Handling.{Handling, turn_in, exchange_in, journal_in, response_in}
@@ -17,7 +17,7 @@ use Rattle.serving.specs.Delivering.{Delivers}
 use Rattle.serving.specs.Events.{Outside, WasHandled, CutsJournal}
 use Rattle.making.specs.declared.making.Made.TheVariants as made
 use Rattle.making.specs.Making.{Makes}
-use Rattle.wiki_core.specs.Apart.{TokensAreOwn}
+use Rattle.turning.specs.Laws.{IsRun, TokensAreOwn, UndoGivesBack, RedoGivesBack}
 use Rattle.acewiki.specs.declared.command.Outcome.{Outcome}
 use Rattle.acewiki.specs.declared.command.Outcome.TheVariants.{Done, Usage, ReadFault, WriteFault, LinkFault, TooMuch, Memory}
 use Rattle.retelling.specs.Saying.{SaysAll}
@@ -26,7 +26,7 @@ use Rattle.acewiki.specs.Command.{Asked, replay, serve, make, help, say, why, co
 use Rattle.acewiki.specs.Completeness.{DoesWhatIsFree}
 use Rattle.acewiki.specs.Standing.{StandsAsRead, WritesShortLines}
 use Rattle.acewiki.specs.Lines.{asked, StepsLines, reply_lines}
-use Rattle.acewiki.specs.Wiki.{Holding, KeptStep, ace_wiki}
+use Rattle.acewiki.specs.Wiki.{Holding, Recalling, KeptStep, ace_wiki, new_wiki}
 
 -- ---- what is outside
 
@@ -94,16 +94,16 @@ pub record ReadsLines (left : Option (List ℕ)) (outcome : Outcome) (left_after
   pub all : outcome ≡ Done → (bytes : List ℕ) → left ≡ Some bytes → lines ≡ input_lines bytes
 
 -- all turns but the last
-abbrev pub but_last : List (Exchange Request Reply) → List (Exchange Request Reply)
+abbrev pub but_last : List (Exchange LineRequest Reply) → List (Exchange LineRequest Reply)
 but_last exchanges = take (length exchanges - 1) exchanges
 
--- `replay`: the lines that were read were stepped in one run of the plain wiki. What was written is a front of their reply lines, and
+-- `replay`: the lines that were read were turned in one run of the plain wiki with its history. What was written is a front of their reply lines, and
 -- lacks no other than the last; it lacks none, unless a write failed or there was no memory.
-pub record Replays (first : Holding) (left taken : Option (List ℕ)) (outcome : Outcome) (left_after taken_after : Option (List ℕ)) : Type 0 where
+pub record Replays (first : Recalling) (left taken : Option (List ℕ)) (outcome : Outcome) (left_after taken_after : Option (List ℕ)) : Type 0 where
   pub lines : List InputLine
   pub reads : ReadsLines left outcome left_after lines
-  pub exchanges : List (Exchange Request Reply)
-  pub last : Holding
+  pub exchanges : List (Exchange LineRequest Reply)
+  pub last : Recalling
   pub steps : StepsLines first lines exchanges last
   pub written : List ℕ
   pub sink : Appends taken taken_after written
@@ -114,24 +114,24 @@ pub record Replays (first : Holding) (left taken : Option (List ℕ)) (outcome :
 -- ---- the headline
 
 -- For every list of events, that is, for every interleaving of pieces that arrive on any connections, the bytes answered are
--- a plain wiki's: there is one run of the plain wiki over what the lines of the input ask and then what the events ask, in
--- order. By each of its steps every stored sentence has a derivation from the present words, every menu lists exactly the
+-- a plain wiki's: there is one run of the plain wiki over what the lines of the input ask, with its history, and then what the events ask,
+-- in order. By each of its steps every stored sentence has a derivation from the present words, every menu lists exactly the
 -- tokens that continue a partial derivation, the axioms of the asserted sentences are those that they mean and have the kept
 -- interpretation as a finite model, and a sentence that means axioms is red only where no finite interpretation is a model with
 -- them, or a budget is spent. What a connection asks is told by its own bytes alone, however they were cut, and what a session
 -- holds by what that session heard. The journal is the lines of the accepted changes. On each connection's number the
 -- responses to its replies are sent, opening after opening, each whole where no send failed. Among them are sent the refusals of
 -- bytes that ask nothing and the files of the editor page: these are no replies, and the plain wiki has no step for them.
-pub record AnswersAsPlainWiki (first : Holding) (lines : List InputLine) (outside : Outside) (events : List Event) (outside_after : Outside) : Type 0 where
-  pub of_lines : List (Exchange Request Reply)
+pub record AnswersAsPlainWiki (first : Recalling) (lines : List InputLine) (outside : Outside) (events : List Event) (outside_after : Outside) : Type 0 where
+  pub of_lines : List (Exchange LineRequest Reply)
   pub asked_then : map request_in of_lines ≡ map asked lines
   pub handlings : List Handling
   pub kept : List Kept
   pub turns : TakesAll [] events (map turn_in handlings) kept
   pub own : AreOwn [] events (map turn_in handlings)
   pub last : Holding
-  pub run : Turns KeptStep first (of_lines ++ flat_map exchange_in handlings) last
-  pub tokens : TokensAreOwn first.state.pages.grammar
+  pub run : IsRun first of_lines (flat_map exchange_in handlings) last
+  pub tokens : TokensAreOwn first.wiki.state.pages.grammar
   pub journal : Appends outside.journal outside_after.journal (flat_map journal_in handlings)
   pub responses : Delivers (flat_map response_in handlings) outside.sent outside.send_faults outside_after.sent outside_after.send_faults
   pub whole : ¬ Rose outside.send_faults outside_after.send_faults → (n : ℕ) (sent sent_after : List (ℕ × List ℕ)) → outside.sent ≡ Some sent
@@ -179,7 +179,7 @@ EndsServing read_so outcome address events most before after = ⊥
 -- `serve`: lines of the input were read, and where these were all, the link was to listen at the address, and events were handed in, at
 -- most so many. The bytes answered to all of them, or to all but a last one that a fault ended, are those of a plain wiki that began with
 -- the lines.
-pub record Serves {S K L : Type 0} (first : Holding) (address : List ℕ) (most : ℕ) (outcome : Outcome) (before after : World S K L) : Type 0 where
+pub record Serves {S K L : Type 0} (first : Recalling) (address : List ℕ) (most : ℕ) (outcome : Outcome) (before after : World S K L) : Type 0 where
   pub read_so : Outcome
   pub lines : List InputLine
   pub reads : ReadsLines before.input.bytes read_so after.input.bytes lines
@@ -224,15 +224,15 @@ EndsRetelling IsText read_so outcome taken taken_after = ⊥
 
 -- `say` and `why`: the lines that were read were stepped in one run of the plain wiki, and a text about the wiki as that leaves it was
 -- written.
-pub record Retells (IsText : Holding → List ℕ → Type 0) (first : Holding) (left taken : Option (List ℕ)) (outcome : Outcome)
+pub record Retells (IsText : Holding → List ℕ → Type 0) (first : Recalling) (left taken : Option (List ℕ)) (outcome : Outcome)
     (left_after taken_after : Option (List ℕ)) : Type 0 where
   pub read_so : Outcome
   pub lines : List InputLine
   pub reads : ReadsLines left read_so left_after lines
-  pub exchanges : List (Exchange Request Reply)
-  pub last : Holding
+  pub exchanges : List (Exchange LineRequest Reply)
+  pub last : Recalling
   pub steps : StepsLines first lines exchanges last
-  pub ends : EndsRetelling (IsText last) read_so outcome taken taken_after
+  pub ends : EndsRetelling (IsText last.wiki) read_so outcome taken taken_after
 
 -- `say`: the lines of all that the wiki knows
 abbrev pub IsSaid : Holding → List ℕ → Type 0
@@ -248,16 +248,16 @@ IsWhy budget article at name wiki text = TellsWhy wiki.state.pages budget articl
 abbrev pub Does : {S K L : Type 0} → Option Asked → Outcome → World S K L → World S K L → Type 0
 Does None outcome before after = (outcome ≡ Usage) × (after ≡ before)
 Does (Some (replay budget)) outcome before after =
-    Replays (ace_wiki budget) before.input.bytes before.output.bytes outcome after.input.bytes after.output.bytes × (after.link ≡ before.link)
-Does (Some (serve address budget most)) outcome before after = Serves (ace_wiki budget) address most outcome before after
+    Replays (new_wiki budget) before.input.bytes before.output.bytes outcome after.input.bytes after.output.bytes × (after.link ≡ before.link)
+Does (Some (serve address budget most)) outcome before after = Serves (new_wiki budget) address most outcome before after
 Does (Some (make count seed budget)) outcome before after =
     MakesSummary (ace_wiki budget) count seed before.output.bytes outcome after.output.bytes × (after.input ≡ before.input) × (after.link ≡ before.link)
 Does (Some help) outcome before after =
     WritesHelp outcome before.output.bytes after.output.bytes × (after.input ≡ before.input) × (after.link ≡ before.link)
 Does (Some (say budget)) outcome before after =
-    Retells IsSaid (ace_wiki budget) before.input.bytes before.output.bytes outcome after.input.bytes after.output.bytes × (after.link ≡ before.link)
+    Retells IsSaid (new_wiki budget) before.input.bytes before.output.bytes outcome after.input.bytes after.output.bytes × (after.link ≡ before.link)
 Does (Some (why article at name budget)) outcome before after =
-    Retells (IsWhy budget article at name) (ace_wiki budget) before.input.bytes before.output.bytes outcome after.input.bytes after.output.bytes
+    Retells (IsWhy budget article at name) (new_wiki budget) before.input.bytes before.output.bytes outcome after.input.bytes after.output.bytes
     × (after.link ≡ before.link)
 
 -- the source told no more than `MAX_INPUT` bytes
@@ -286,11 +286,14 @@ Tells message errors errors_after =
     ⊎ ((n : ℕ) × (n ≤ length message) × Appends errors.bytes errors_after.bytes (take n message) × Rose errors.faults errors_after.faults)
 
 -- What holds of every run of the wiki, beside what its steps say: a request is done where nothing stands against it, so that none is
--- refused without a cause; what stands is what is read from the input and the journal; and no line of the journal is long.
+-- refused without a cause; what stands is what is read from the input and the journal; no line of the journal is long; a change that is
+-- taken back leaves what there was before it, and one that is done again what there was before it was taken back.
 pub record HoldsOfRuns : Type 0 where
   pub done_where_free : DoesWhatIsFree
   pub stands : StandsAsRead
   pub short : WritesShortLines
+  pub undo : UndoGivesBack
+  pub redo : RedoGivesBack
 
 -- The program ran with these words: their command was carried out up to an outcome, whose status it has, and whose words were written to
 -- standard error.

@@ -2,26 +2,25 @@
 ghost use Rattle.std.specs.Prelude.{◌≡◌, ◌⊎◌, ◌≤◌, IfOk, IfErr, OnOk, OnErr, IsErrOf};
 ghost use Rattle.wiki_io.specs.Faults.{Rose};
 ghost use Rattle.acewiki.specs.Lines.{line_handed, StepsLine, RepliesTo, WasStepped, AnswersLine, CutsLine};
-ghost use Rattle.wiki_talk.specs.declared.requests.Request.{Request};
+ghost use Rattle.wiki_talk.specs.declared.requests.LineRequest.{LineRequest};
 ghost use Rattle.wiki_talk.specs.Turns.{Exchange};
 ghost use Rattle.wiki_talk.specs.declared.replies.Reply.{Reply};
-ghost use Rattle.acewiki.specs.Wiki.{KeptStep};
+ghost use Rattle.acewiki.specs.Wiki.{KeptTurn};
 ghost use Rattle.wire_json.specs.Replies.{reply_line};
 
 use crate::command::Outcome;
-use crate::wiki::AceWiki;
-use serving::Machine;
+use crate::recalling::RecallingWiki;
 use std::alloc::Global;
 use wiki_base::{Memory, Text8};
 use wiki_io::{Sink, put};
-use wiki_talk::Request;
-use wire_json::{bad_request_line, read_request, reply_line};
+use wiki_talk::LineRequest;
+use wire_json::{bad_request_line, read_line_request, reply_line};
 
 /// Steps through one line, where none is one that is too long, and writes its reply line. It answers Ok only when the
 /// whole reply line is written, so whoever reads the next line after that has answered this one.
 pub fn answer_line<K: Sink>(
     alloc: Global,
-    wiki: &mut AceWiki,
+    wiki: &mut RecallingWiki,
     line: Option<&[u8]>,
     output: &mut K,
 ) -> Result<(), Outcome>
@@ -39,16 +38,16 @@ pub fn answer_line<K: Sink>(
 }
 
 /// Steps through one line, where none is one that is too long, and writes nothing.
-pub fn step_line(alloc: Global, wiki: &mut AceWiki, line: Option<&[u8]>) -> Result<(), Memory>
-    ensures { OnOk result ((exchange : Exchange Request Reply) × StepsLine wiki.old (line_handed line.entry) exchange wiki.new) }
+pub fn step_line(alloc: Global, wiki: &mut RecallingWiki, line: Option<&[u8]>) -> Result<(), Memory>
+    ensures { OnOk result ((exchange : Exchange LineRequest Reply) × StepsLine wiki.old (line_handed line.entry) exchange wiki.new) }
 {
     let request = match line {
-        Some(line) => read_request(alloc, line)?,
+        Some(line) => read_line_request(alloc, line)?,
         None => None,
     };
     match request {
         Some(request) => {
-            let done = step_request(wiki, &request);
+            let done = turn(wiki, &request);
             drop(request);
             done
         }
@@ -56,22 +55,22 @@ pub fn step_line(alloc: Global, wiki: &mut AceWiki, line: Option<&[u8]>) -> Resu
     }
 }
 
-// Steps through a request.
-fn step_request(wiki: &mut AceWiki, request: &Request) -> Result<(), Memory>
-    ensures { OnOk result ((reply : Reply) × KeptStep wiki.old request.now reply wiki.new) }
+// Takes the turn of a request.
+fn turn(wiki: &mut RecallingWiki, request: &LineRequest) -> Result<(), Memory>
+    ensures { OnOk result ((reply : Reply) × KeptTurn wiki.old request.now reply wiki.new) }
 {
-    let told = wiki.step(request)?;
+    let told = wiki.turn(request)?;
     drop(told);
     Ok(())
 }
 
 // The reply line to a line.
-fn answer(alloc: Global, wiki: &mut AceWiki, line: Option<&[u8]>) -> Result<Text8, Memory>
+fn answer(alloc: Global, wiki: &mut RecallingWiki, line: Option<&[u8]>) -> Result<Text8, Memory>
     ensures reply { IfOk result (RepliesTo wiki.old (line_handed line.entry) wiki.new) }
     ensures memory { OnErr result (WasStepped wiki.old (line_handed line.entry) wiki.new) }
 {
     let request = match line {
-        Some(line) => read_request(alloc, line)?,
+        Some(line) => read_line_request(alloc, line)?,
         None => None,
     };
     match request {
@@ -85,11 +84,11 @@ fn answer(alloc: Global, wiki: &mut AceWiki, line: Option<&[u8]>) -> Result<Text
 }
 
 // The reply line to a request.
-fn reply_to(alloc: Global, wiki: &mut AceWiki, request: &Request) -> Result<Text8, Memory>
-    ensures reply { IfOk result (λ line. (reply : Reply) × KeptStep wiki.old request.now reply wiki.new × (line ≡ reply_line reply)) }
-    ensures memory { OnErr result ((wiki.new ≡ wiki.old) ⊎ ((reply : Reply) × KeptStep wiki.old request.now reply wiki.new)) }
+fn reply_to(alloc: Global, wiki: &mut RecallingWiki, request: &LineRequest) -> Result<Text8, Memory>
+    ensures reply { IfOk result (λ line. (reply : Reply) × KeptTurn wiki.old request.now reply wiki.new × (line ≡ reply_line reply)) }
+    ensures memory { OnErr result ((wiki.new ≡ wiki.old) ⊎ ((reply : Reply) × KeptTurn wiki.old request.now reply wiki.new)) }
 {
-    let reply = wiki.step(request)?;
+    let reply = wiki.turn(request)?;
     let line = reply_line(alloc, &reply);
     drop(reply);
     line

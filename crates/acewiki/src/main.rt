@@ -11,6 +11,7 @@ mod lines;
 mod make;
 mod options;
 mod over_sockets;
+mod recalling;
 mod replay;
 mod retell;
 mod run;

@@ -3,11 +3,11 @@ ghost use Rattle.std.specs.Prelude.{◌≡◌};
 ghost use Rattle.wiki_io.specs.Faults.{Rose};
 ghost use Rattle.wiki_io.specs.Reading.{unread};
 ghost use Rattle.acewiki.specs.Theorem.{Replays};
-ghost use Rattle.acewiki.specs.Wiki.{ace_wiki};
+ghost use Rattle.acewiki.specs.Wiki.{new_wiki};
 
 use crate::command::Outcome;
 use crate::lines::answer_line;
-use crate::wiki::AceWiki;
+use crate::recalling::RecallingWiki;
 use std::alloc::Global;
 use wiki_base::Memory;
 use wiki_io::{Line, LineReader, Sink, Source};
@@ -19,11 +19,11 @@ pub fn replay<S: Source, K: Sink>(
     input: &mut S,
     output: &mut K,
 ) -> Outcome
-    ensures replays { Replays (ace_wiki budget) (S.left input.old) (K.taken output.old) result (S.left input.new) (K.taken output.new) }
+    ensures replays { Replays (new_wiki budget) (S.left input.old) (K.taken output.old) result (S.left input.new) (K.taken output.new) }
     ensures read_fault { result ≡ Outcome.ReadFault → Rose (S.faults input.old) (S.faults input.new) }
     ensures write_fault { result ≡ Outcome.WriteFault → Rose (K.faults output.old) (K.faults output.new) }
 {
-    match AceWiki::new(alloc, budget) {
+    match RecallingWiki::new(alloc, budget) {
         Ok(mut wiki) => answer_input(alloc, &mut wiki, input, output),
         Err(Memory) => Outcome::Memory,
     }
@@ -32,7 +32,7 @@ pub fn replay<S: Source, K: Sink>(
 // Answers each line of the input.
 fn answer_input<S: Source, K: Sink>(
     alloc: Global,
-    wiki: &mut AceWiki,
+    wiki: &mut RecallingWiki,
     input: &mut S,
     output: &mut K,
 ) -> Outcome
@@ -50,7 +50,7 @@ fn answer_input<S: Source, K: Sink>(
 fn answer_lines<S: Source, K: Sink>(
     alloc: Global,
     reader: &mut LineReader,
-    wiki: &mut AceWiki,
+    wiki: &mut RecallingWiki,
     input: &mut S,
     output: &mut K,
 ) -> Outcome

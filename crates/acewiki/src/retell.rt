@@ -3,23 +3,23 @@ ghost use Rattle.std.specs.Prelude.{◌≡◌, option_map};
 ghost use Rattle.wiki_io.specs.Faults.{Rose};
 ghost use Rattle.acewiki.specs.Steps.{EndsWriting};
 ghost use Rattle.acewiki.specs.Theorem.{Retells, IsSaid, IsWhy};
-ghost use Rattle.acewiki.specs.Wiki.{ace_wiki};
+ghost use Rattle.acewiki.specs.Wiki.{new_wiki};
 
 use crate::command::Outcome;
+use crate::recalling::RecallingWiki;
 use crate::serve::step_input;
-use crate::wiki::AceWiki;
 use std::alloc::Global;
 use wiki_base::{Memory, Text8};
 use wiki_io::{Sink, Source, put};
 
 /// Steps through the lines of the input, and then says all that the wiki knows, a line for each axiom.
 pub fn say<S: Source, K: Sink>(alloc: Global, budget: u64, input: &mut S, output: &mut K) -> Outcome
-    ensures retells { Retells IsSaid (ace_wiki budget) (S.left input.old) (K.taken output.old) result (S.left input.new) (K.taken output.new) }
+    ensures retells { Retells IsSaid (new_wiki budget) (S.left input.old) (K.taken output.old) result (S.left input.new) (K.taken output.new) }
     ensures read_fault { result ≡ Outcome.ReadFault → Rose (S.faults input.old) (S.faults input.new) }
     ensures write_fault { result ≡ Outcome.WriteFault → Rose (K.faults output.old) (K.faults output.new) }
     ensures link_fault { result ≡ Outcome.LinkFault → ⊥ }
 {
-    match AceWiki::new(alloc, budget) {
+    match RecallingWiki::new(alloc, budget) {
         Ok(mut wiki) => say_input(alloc, &mut wiki, input, output),
         Err(Memory) => Outcome::Memory,
     }
@@ -28,7 +28,7 @@ pub fn say<S: Source, K: Sink>(alloc: Global, budget: u64, input: &mut S, output
 // Steps the wiki through the lines of the input, and says all that it knows then.
 fn say_input<S: Source, K: Sink>(
     alloc: Global,
-    wiki: &mut AceWiki,
+    wiki: &mut RecallingWiki,
     input: &mut S,
     output: &mut K,
 ) -> Outcome
@@ -57,13 +57,13 @@ pub fn why<S: Source, K: Sink>(
     input: &mut S,
     output: &mut K,
 ) -> Outcome
-    ensures retells { Retells (IsWhy budget article.now at (option_map (λ form. form.now) name.entry)) (ace_wiki budget)
+    ensures retells { Retells (IsWhy budget article.now at (option_map (λ form. form.now) name.entry)) (new_wiki budget)
         (S.left input.old) (K.taken output.old) result (S.left input.new) (K.taken output.new) }
     ensures read_fault { result ≡ Outcome.ReadFault → Rose (S.faults input.old) (S.faults input.new) }
     ensures write_fault { result ≡ Outcome.WriteFault → Rose (K.faults output.old) (K.faults output.new) }
     ensures link_fault { result ≡ Outcome.LinkFault → ⊥ }
 {
-    match AceWiki::new(alloc, budget) {
+    match RecallingWiki::new(alloc, budget) {
         Ok(mut wiki) => why_input(alloc, &mut wiki, budget, article, at, name, input, output),
         Err(Memory) => Outcome::Memory,
     }
@@ -72,7 +72,7 @@ pub fn why<S: Source, K: Sink>(
 // Steps the wiki through the lines of the input, and tells why a sentence isn't asserted then, or why a name is an answer to it.
 fn why_input<S: Source, K: Sink>(
     alloc: Global,
-    wiki: &mut AceWiki,
+    wiki: &mut RecallingWiki,
     budget: u64,
     article: &str,
     at: u32,

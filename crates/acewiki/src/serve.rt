@@ -4,10 +4,11 @@ ghost use Rattle.wiki_io.specs.Faults.{Rose};
 ghost use Rattle.wiki_io.specs.Reading.{unread};
 ghost use Rattle.acewiki.specs.Steps.{StepsInput, ServesLink, outcome_of};
 ghost use Rattle.acewiki.specs.Theorem.{stream, network, Serves};
-ghost use Rattle.acewiki.specs.Wiki.{ace_wiki};
+ghost use Rattle.acewiki.specs.Wiki.{new_wiki};
 
 use crate::command::Outcome;
 use crate::lines::step_line;
+use crate::recalling::RecallingWiki;
 use crate::wiki::AceWiki;
 use serving::Served;
 use std::alloc::Global;
@@ -26,7 +27,7 @@ pub fn serve<S: Source, K: Sink, L: Link>(
     link: &mut L,
 ) -> Outcome
     requires { L.connections link.old ≡ [] }
-    ensures serves { Serves (ace_wiki budget) address.now events result
+    ensures serves { Serves (new_wiki budget) address.now events result
         (record {
           input = stream S.left S.faults input.old;
           output = stream K.taken K.faults output.old;
@@ -41,16 +42,16 @@ pub fn serve<S: Source, K: Sink, L: Link>(
     ensures write_fault { result ≡ Outcome.WriteFault → Rose (K.faults output.old) (K.faults output.new) }
     ensures link_fault { result ≡ Outcome.LinkFault → Rose (L.faults link.old) (L.faults link.new) }
 {
-    match AceWiki::new(alloc, budget) {
-        Ok(mut wiki) => serve_wiki(alloc, &mut wiki, address, events, input, output, link),
+    match RecallingWiki::new(alloc, budget) {
+        Ok(wiki) => serve_wiki(alloc, wiki, address, events, input, output, link),
         Err(Memory) => Outcome::Memory,
     }
 }
 
-// Steps the wiki through the lines of the input, and then serves it.
+// Steps the wiki through the lines of the input, and then serves it, without its history.
 fn serve_wiki<S: Source, K: Sink, L: Link>(
     alloc: Global,
-    wiki: &mut AceWiki,
+    mut wiki: RecallingWiki,
     address: &str,
     events: u64,
     input: &mut S,
@@ -58,7 +59,7 @@ fn serve_wiki<S: Source, K: Sink, L: Link>(
     link: &mut L,
 ) -> Outcome
     requires { L.connections link.old ≡ [] }
-    ensures serves { Serves wiki.old address.now events result
+    ensures serves { Serves wiki address.now events result
         (record {
           input = stream S.left S.faults input.old;
           output = stream K.taken K.faults output.old;
@@ -73,8 +74,11 @@ fn serve_wiki<S: Source, K: Sink, L: Link>(
     ensures write_fault { result ≡ Outcome.WriteFault → Rose (K.faults output.old) (K.faults output.new) }
     ensures link_fault { result ≡ Outcome.LinkFault → Rose (L.faults link.old) (L.faults link.new) }
 {
-    match step_input(alloc, wiki, input) {
-        Outcome::Done => serve_link(alloc, wiki, address, events, output, link),
+    match step_input(alloc, &mut wiki, input) {
+        Outcome::Done => {
+            let mut wiki = wiki.into_wiki();
+            serve_link(alloc, &mut wiki, address, events, output, link)
+        }
         outcome => outcome,
     }
 }
@@ -119,7 +123,7 @@ fn ended(served: Served) -> Outcome
 }
 
 /// Steps the wiki through the lines of the input, and writes nothing.
-pub fn step_input<S: Source>(alloc: Global, wiki: &mut AceWiki, input: &mut S) -> Outcome
+pub fn step_input<S: Source>(alloc: Global, wiki: &mut RecallingWiki, input: &mut S) -> Outcome
     ensures steps { StepsInput wiki.old (S.left input.old) result (S.left input.new) wiki.new }
     ensures read_fault { result ≡ Outcome.ReadFault → Rose (S.faults input.old) (S.faults input.new) }
     ensures write_fault { result ≡ Outcome.WriteFault → ⊥ }
@@ -134,7 +138,7 @@ pub fn step_input<S: Source>(alloc: Global, wiki: &mut AceWiki, input: &mut S) -
 fn step_lines<S: Source>(
     alloc: Global,
     reader: &mut LineReader,
-    wiki: &mut AceWiki,
+    wiki: &mut RecallingWiki,
     input: &mut S,
 ) -> Outcome
     requires { reader.old ≡ unread }

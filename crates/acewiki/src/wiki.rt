@@ -1,14 +1,16 @@
 // The wiki that the program begins with.
 ghost use Rattle.std.specs.Prelude.{◌≡◌, IfOk, OnErr};
-ghost use Rattle.acewiki.specs.Wiki.{KeptStep, ace_wiki};
+ghost use Rattle.acewiki.specs.Wiki.{KeptStep, KeptTurn, ace_wiki};
+ghost use Rattle.turning.specs.Recalling.{recalling, FitsHistory};
 
 use ace_grammar::built_in;
+use history::History;
 use serving::Machine;
 use std::alloc::Global;
 use std::marker::Model;
 use wiki_base::Memory;
 use wiki_core::Wiki;
-use wiki_talk::{Reply, Request};
+use wiki_talk::{LineRequest, Reply, Request};
 
 /// A wiki over the built-in grammar, seen as the state of a plain wiki.
 #[derive(Drop)]
@@ -38,6 +40,22 @@ impl AceWiki {
         ensures { result.now ≡ self.now }
     {
         &self.wiki
+    }
+
+    /// Takes one turn of the wiki with a history that fits it.
+    pub fn turn(
+        &mut self,
+        alloc: Global,
+        history: &mut History,
+        request: &LineRequest,
+    ) -> Result<Reply, Memory>
+        requires { FitsHistory self.old.state.pages history.old }
+        ensures turn { IfOk result (λ reply. KeptTurn (recalling self.old history.old) request.now reply (recalling self.new history.new)) }
+        ensures fits { FitsHistory self.new.state.pages history.new }
+        ensures wiki { OnErr result (self.new ≡ self.old) }
+        ensures history { OnErr result (history.new ≡ history.old) }
+    {
+        turning::turn(alloc, &mut self.wiki, history, request)
     }
 }
 

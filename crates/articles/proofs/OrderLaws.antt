@@ -1,2 +1,1 @@
 -- Laws on lists, by place.
-use Rattle.std.proofs.Common.{◌≡◌, ◌<◌, [], ◌∷◌}

@@ -64,6 +64,16 @@ impl Article {
         self.sentences.remove(at)
     }
 
+    // Puts other sentences in place of all, and gives those back.
+    pub(crate) fn exchange(&mut self, sentences: Sentences) -> Sentences
+        requires { self.old.revision.0 < LAST_NUMBER }
+        ensures article { self.new ≡ changed (λ _. sentences) self.old }
+        ensures old { result ≡ self.old.sentences }
+    {
+        self.revision = next(self.revision);
+        mem::replace(&mut self.sentences, sentences)
+    }
+
     // Gives the sentence at a place another status.
     pub(crate) fn mark(&mut self, at: usize, status: Status)
         requires open { self.old.revision.0 < LAST_NUMBER }

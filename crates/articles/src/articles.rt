@@ -153,6 +153,16 @@ impl Articles {
         self.articles[place].take(at as usize)
     }
 
+    /// Puts other sentences in place of all that an article has, and gives those back.
+    pub fn exchange(&mut self, article: WordId, sentences: Sentences) -> Sentences
+        requires { CanChange self.old article }
+        ensures articles { self.new ≡ with_change self.old article (λ _. sentences) }
+        ensures old { option_map (λ found. found.sentences) (article_of self.old article) ≡ Some result }
+    {
+        let place = self.place_there(article);
+        self.articles[place].exchange(sentences)
+    }
+
     /// Gives a sentence another status.
     pub fn mark(&mut self, article: WordId, at: u32, status: Status)
         requires open { CanChange self.old article }

@@ -7,6 +7,7 @@ use owl_eval::{CheckedModel, Interp};
 use std::alloc::Global;
 use std::test::Fail;
 use wiki_base::WordId;
+use wiki_parts::Senses;
 
 // What stood before the change with a number, told by the word of its article.
 fn kept(alloc: Global, number: u32) -> Result<Kept, Fail> {
@@ -15,6 +16,7 @@ fn kept(alloc: Global, number: u32) -> Result<Kept, Fail> {
         Ok(model) => Ok(Kept {
             article: WordId(number),
             sentences: Sentences::new(alloc),
+            senses: Senses::new(alloc),
             model,
         }),
         Err(_) => Err("a model of no axioms".into()),

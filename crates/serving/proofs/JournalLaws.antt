@@ -4,11 +4,12 @@ use Rattle.std.proofs.lemmas.Grind.{flat_map-append}
 use Rattle.std.proofs.lemmas.List.Elements.{All-head}
 use Rattle.wiki_io.specs.Lines.{InputLine, text, input_lines}
 use Rattle.wiki_talk.specs.declared.requests.Request.{Request}
+use Rattle.wiki_talk.specs.declared.requests.LineRequest.{LineRequest}
 use Rattle.wiki_talk.specs.declared.requests.Request.TheVariants as requests
 use Rattle.wiki_talk.specs.declared.replies.Reply.{Reply}
 use Rattle.wiki_talk.specs.declared.replies.Reply.TheVariants as replies
-use Rattle.wire_json.specs.Requests.{request_of, request_line}
-use Rattle.wire_json.specs.Told.{request_text, IsToldChange, most_line, EndsLine, ended, asked_by_front}
+use Rattle.wire_json.specs.Requests.{line_request_of, request_line}
+use Rattle.wire_json.specs.Told.{asked_for, request_text, IsToldChange, most_line, EndsLine, ended, asked_by_front}
 use Rattle.wire_json.proofs.RequestLaws.{length-change_line, input_lines-changes, asked-changes, asked-next, EndsLine-requests}
 use Rattle.wire_json.proofs.CutLaws.{asked-cut-changes}
 use Rattle.serving.specs.Journal.{is_change, line_written, change_line, shown_line, journal_line}
@@ -75,6 +76,8 @@ journal_line-changes r (replies.Menu menu whole shown) = change_line-itself r
 journal_line-changes r (replies.Commit article status shown) = written (requests.Add article None shown)
 journal_line-changes r replies.Refresh = change_line-itself r
 journal_line-changes r replies.Drop = change_line-itself r
+journal_line-changes r (replies.Undo article) = change_line-itself r
+journal_line-changes r (replies.Redo article) = change_line-itself r
 journal_line-changes r (replies.Refused refusal) = refl
 
 length-one : (rs : List Request) → length rs ≤ 1 → All IsToldChange rs → length (flat_map request_line rs) ≤ most_line
@@ -131,6 +134,8 @@ few-changes r (replies.Menu menu whole shown) = few-itself r (is_change r)
 few-changes r (replies.Commit article status shown) = omega arith
 few-changes r replies.Refresh = few-itself r (is_change r)
 few-changes r replies.Drop = few-itself r (is_change r)
+few-changes r (replies.Undo article) = few-itself r (is_change r)
+few-changes r (replies.Redo article) = few-itself r (is_change r)
 few-changes r (replies.Refused refusal) = omega arith
 
 -- a line of the journal has at most `most_line` bytes, its newline among them
@@ -161,17 +166,17 @@ input_lines-journal former handlings whole told =
 
 -- What such an input and the journal behind it ask: what the input asks, and then the accepted changes. `ask` is what a line asks, which for
 -- bytes is the request that they are.
-pub asked-journal : (ask : InputLine → Option Request) → ((bytes : List ℕ) → ask (text bytes) ≡ request_of bytes) → (former : List ℕ)
+pub asked-journal : (ask : InputLine → Option LineRequest) → ((bytes : List ℕ) → ask (text bytes) ≡ line_request_of bytes) → (former : List ℕ)
     (handlings : List Handling) → EndsLine former → All IsToldChange (flat_map changes_in handlings)
-    → map ask (input_lines (former ++ flat_map journal_in handlings)) ≡ map ask (input_lines former) ++ map Some (flat_map changes_in handlings)
+    → map ask (input_lines (former ++ flat_map journal_in handlings)) ≡ map ask (input_lines former) ++ map asked_for (flat_map changes_in handlings)
 asked-journal ask asks former handlings whole told =
     ap (λ (l : List ℕ). map ask (input_lines (former ++ l))) (journal-changes handlings)
     ∙ asked-changes ask asks former (flat_map changes_in handlings) whole told
 
 -- the same behind an input whose last line may lack its newline, which is ended first
-pub asked-restart : (ask : InputLine → Option Request) → ((bytes : List ℕ) → ask (text bytes) ≡ request_of bytes) → (former : List ℕ)
+pub asked-restart : (ask : InputLine → Option LineRequest) → ((bytes : List ℕ) → ask (text bytes) ≡ line_request_of bytes) → (former : List ℕ)
     (handlings : List Handling) → All IsToldChange (flat_map changes_in handlings)
-    → map ask (input_lines (ended former ++ flat_map journal_in handlings)) ≡ map ask (input_lines former) ++ map Some (flat_map changes_in handlings)
+    → map ask (input_lines (ended former ++ flat_map journal_in handlings)) ≡ map ask (input_lines former) ++ map asked_for (flat_map changes_in handlings)
 asked-restart ask asks former handlings told =
     ap (λ (l : List ℕ). map ask (input_lines (ended former ++ l))) (journal-changes handlings)
     ∙ asked-next ask asks former (flat_map changes_in handlings) told
@@ -187,11 +192,11 @@ few-in (replied n request next reply) = few-changes request reply
 
 -- The same where of the line of one event more only a front was written: that asks for nothing where there is no byte of it, is no request
 -- where it was cut, and asks for its change where at most its newline lacks.
-pub asked-cut-journal : (ask : InputLine → Option Request) → ((bytes : List ℕ) → ask (text bytes) ≡ request_of bytes) → (former : List ℕ)
+pub asked-cut-journal : (ask : InputLine → Option LineRequest) → ((bytes : List ℕ) → ask (text bytes) ≡ line_request_of bytes) → (former : List ℕ)
     (handlings : List Handling) (last : Handling) (n : ℕ) → All IsToldChange (flat_map changes_in handlings) → All IsToldChange (changes_in last)
     → n ≤ length (journal_in last)
     → map ask (input_lines (ended former ++ (flat_map journal_in handlings ++ take n (journal_in last))))
-    ≡ (map ask (input_lines former) ++ map Some (flat_map changes_in handlings)) ++ flat_map (asked_by_front n) (changes_in last)
+    ≡ (map ask (input_lines former) ++ map asked_for (flat_map changes_in handlings)) ++ flat_map (asked_by_front n) (changes_in last)
 asked-cut-journal ask asks former handlings last n told last_told within =
     let same = journal_in-changes last in
     let fits : n ≤ length (flat_map request_line (changes_in last)) = omega (arith, ap length same) in

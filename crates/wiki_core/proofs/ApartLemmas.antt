@@ -157,7 +157,7 @@ module _ (g : GrammarParts) (old new : State) (number : ℕ) (over : old.pages.g
         by_test false is = drop_other g old new number over apt n reply is step
 
 -- what isn't seen of a session isn't there
-none_seen : (o : Option PlainSession) → option_map own o ≡ None → o ≡ None
+pub none_seen : (o : Option PlainSession) → option_map own o ≡ None → o ≡ None
 none_seen None none = refl
 none_seen (Some s) none = absurd (none-some (own s) (sym none))
 
@@ -167,7 +167,7 @@ rebases_none g words None is none rebased = rebased
 rebases_none g words (Some own) is none rebased = absurd (none-some own (sym none))
 
 -- changes of words open no session
-none_follows : (g : GrammarParts) (old new : Seen) (request : Request) (reply : Reply) → Follows g old (apart.heard_of_words (answered request reply)) new
+pub none_follows : (g : GrammarParts) (old new : Seen) (request : Request) (reply : Reply) → Follows g old (apart.heard_of_words (answered request reply)) new
     → old.own ≡ None → new.own ≡ None
 none_follows g old new (requests.Word kind forms) replies.Word follows none =
     ap (λ (s : Seen). s.own) follows.2 ∙ rebases_none g follows.0.words old.own follows.0.own none follows.1.1
@@ -183,7 +183,7 @@ pub record Opens (number : ℕ) (request : Request) (reply : Reply) (form : List
   pub asked : request ≡ requests.Begin form
   pub told : reply ≡ replies.Begin number
 
-opens_by : (number : ℕ) (request : Request) (reply : Reply) (form : List ℕ) → apart.opened_by number (answered request reply) ≡ Some form
+pub opens_by : (number : ℕ) (request : Request) (reply : Reply) (form : List ℕ) → apart.opened_by number (answered request reply) ≡ Some form
     → Opens number request reply form
 opens_by number (requests.Begin article) (replies.Begin session) form is = by_test (session == number) (eqb-true session number) is
   where
@@ -246,7 +246,7 @@ run_before g number (answered request reply ∷ exchanges) old last over apt non
         (run_open g number exchanges next last shows.0.grammar shows.0.apt shows.1 rest)
 
 -- the tokens are seen
-tokens_seen : (state : State) (number : ℕ) → apart.tokens_in state number ≡ option_map (λ (o : Own). o.tokens) (seen state number).own
+pub tokens_seen : (state : State) (number : ℕ) → apart.tokens_in state number ≡ option_map (λ (o : Own). o.tokens) (seen state number).own
 tokens_seen state number = by_case (session_numbered state number)
   where
     by_case : (o : Option PlainSession) → option_map (λ (s : PlainSession). s.tokens) o ≡ option_map (λ (o : Own). o.tokens) (option_map own o)

@@ -23,11 +23,13 @@ use Rattle.logic_terms.specs.Interpretation.{Interpretation}
 use Rattle.derivation_trees.specs.Partial.{IsTypeable}
 use Rattle.sessions.proofs.KeepingLaws.{kept_typeable}
 use Rattle.wiki_parts.specs.Holding as holding
+use Rattle.history.specs.declared.kept.Kept.{Kept}
+use Rattle.wiki_store.specs.PuttingBack.{put_back}
 use Rattle.wiki_core.specs.State.{State, IsOnArticle, AreInOrder}
 use Rattle.wiki_core.specs.Holding.{IsKeptSession, IsKept as IsKeptWiki}
 use Rattle.wiki_core.specs.Keeping.{AreHeld}
 use Rattle.wiki_core.proofs.KeyLaws.{changed_at, find_changed, found_has, only_one, all_changed, all_filtered, pairs_head}
-use Rattle.wiki_core.proofs.PagesLemmas.{GoOn, KeepsWords, go_on_ended}
+use Rattle.wiki_core.proofs.PagesLemmas.{GoOn, KeepsWords, keeps_changed, go_on_ended}
 
 -- the first of some numbers, and the numbers behind it
 abbrev first_number : List WordId → ℕ
@@ -69,6 +71,15 @@ held_over old new sessions last held keeps = held_by new sessions last
     subst (λ (words : Listed). AreKept new.grammar words sessions) (sym keeps.words) to_grammar)
     (All-weaker (Fits old.articles last) (Fits new.articles last) (λ s f. record { on = keeps.on s f.on; numbered = f.numbered }) (all_plain sessions)
     (fits_each old sessions last held))
+
+-- where it was put back what an article had, or not
+pub held_put_back : (old new : holding.Holding) (kept : Kept) (sessions : List Session) (last : ℕ) (result : Bool) → AreHeld old.state sessions last
+    → (result ≡ true → new ≡ put_back old kept) → (result ≡ false → new ≡ old) → AreHeld new.state sessions last
+held_put_back old new kept sessions last true held done refused =
+    held_over old.state new.state sessions last held
+    (keeps_changed old.state new.state kept.article (λ _. kept.sentences) (ap (λ (h : holding.Holding). h.state) (done refl)))
+held_put_back old new kept sessions last false held done refused =
+    subst (λ (h : holding.Holding). AreHeld h.state sessions last) (sym (refused refl)) held
 
 -- where a session is opened
 pub held_opened : (pages : parts.State) (old new : List Session) (last : ℕ) (number : SessionId) (word : WordId) (revision : Rev) (article : Article)

@@ -223,7 +223,7 @@ module _ (old : State) (ready : IsReady old) (plain : ArePlain old.pages.grammar
 
 -- ---- runs
 
-all_from_each : (requests : List Request) → Each FitsLine requests → All FitsLine requests
+pub all_from_each : (requests : List Request) → Each FitsLine requests → All FitsLine requests
 all_from_each [] each = All-nil FitsLine
 all_from_each (request ∷ requests) each = All-cons FitsLine request requests each.0 (all_from_each requests each.1)
 

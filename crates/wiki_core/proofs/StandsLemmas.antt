@@ -348,7 +348,7 @@ Asks first [] last = last ≡ first
 Asks first (request ∷ requests) last =
     (reply : Reply) × (next : State) × Step first request reply next × (tells_spent reply ≡ false) × Asks next requests last
 
-neither : (a b : Bool) → (a || b) ≡ false → (a ≡ false) × (b ≡ false)
+pub neither : (a b : Bool) → (a || b) ≡ false → (a ≡ false) × (b ≡ false)
 neither true b h = absurd (false≢true (sym h))
 neither false b h = (refl, h)
 
@@ -371,9 +371,9 @@ asks_again (request ∷ asked) more first last budget its_last (reply, next, ste
     (subst (λ (s : State). Asks s (asked ++ more) its_last) (step_one first budget request reply its_reply next its_next step its_step kept its_kept) its_rest)
 
 -- the change of a step, asked anywhere over the same words and sentences
-made_again : (old new : parts.State) (change : Request) (said : Reply) → store.Step old change said new → tells_spent said ≡ false → asks_store change ≡ true
-    → (other its_new : State) (its_reply : Reply) → StandAlike old other.pages → Step other change its_reply its_new → tells_spent its_reply ≡ false
-    → StandAlike new its_new.pages
+pub made_again : (old new : parts.State) (change : Request) (said : Reply) → store.Step old change said new → tells_spent said ≡ false
+    → asks_store change ≡ true → (other its_new : State) (its_reply : Reply) → StandAlike old other.pages → Step other change its_reply its_new
+    → tells_spent its_reply ≡ false → StandAlike new its_new.pages
 made_again old new change said step kept asks other its_new its_reply same its_step its_kept =
     let pages : StepsPages other change its_reply its_new =
     subst (λ (b : Bool). MatchBool b (StepsPages other change its_reply its_new) (StepsSession other change its_reply its_new)) asks its_step in

@@ -218,7 +218,7 @@ first_blind : (causes : List (State → Refusal → Type 0)) → AreBlind causes
 first_blind causes blind old budget = first_alike (all_in old causes) (all_in (state_at old budget) causes) (blind_alike causes blind old budget)
 
 module _ (old : State) (budget : ℕ) where
-  refuses_alike : (request : Request) (refusal : Refusal) → Refuses old request refusal → Refuses (state_at old budget) request refusal
+  pub refuses_alike : (request : Request) (refusal : Refusal) → Refuses old request refusal → Refuses (state_at old budget) request refusal
   refuses_alike (requests.Begin article) refusal h =
       first_blind ((λ s. NamesNoWord s.pages article) ∷ IsFullOfSessions ∷ IsOutOfNumbers ∷ [])
       (no_word article, (full_of_sessions, (out_of_numbers, tt))) old budget refusal h

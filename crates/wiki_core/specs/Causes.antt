@@ -1,6 +1,5 @@
 -- Why requests on sessions are refused: each cause as what it refuses with where it stands.
 use Rattle.std.specs.Prelude.{◌≡◌, ℕ, ◌<◌, ◌≤◌, List, [], length, Option, Some, None}
-use Rattle.wiki_base.specs.declared.numbers.SessionId.{SessionId}
 use Rattle.derivation_trees.specs.declared.menus.Group.{Group}
 use Rattle.derivation_trees.specs.Sentences.{IsSentence}
 use Rattle.derivations.specs.Typing.{IsTextMenu}

@@ -1,5 +1,5 @@
 -- A whole wiki with the model that it keeps.
-use Rattle.std.specs.Prelude.{◌≤◌, ℕ, List, All, length}
+use Rattle.std.specs.Prelude.{◌≤◌, ℕ, All, length}
 use Rattle.wiki_base.specs.declared.tokens.TheConstants.{MOST_TOKENS}
 use Rattle.codeco_terms.specs.GrammarParts.{GrammarParts}
 use Rattle.derivation_trees.specs.Partial.{IsTypeable}

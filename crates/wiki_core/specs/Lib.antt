@@ -6,6 +6,7 @@ pub mod Holding
 pub mod Journaled
 pub mod Keeping
 pub mod Parts
+pub mod PuttingBack
 pub mod Spending
 pub mod State
 pub mod Step

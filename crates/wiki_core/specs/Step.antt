@@ -1,7 +1,6 @@
 -- The plain wiki: one step for each request.
-use Rattle.std.specs.Prelude.{◌≡◌, ℕ, ◌+◌, ◌-◌, ◌↔◌, Bool, IsTrue, IsUtf8, All, List, [], ◌∷◌, ◌++◌, length, take, Option, Some, None, MatchBool}
+use Rattle.std.specs.Prelude.{◌≡◌, ℕ, ◌+◌, ◌-◌, ◌↔◌, Bool, IsTrue, IsUtf8, All, List, [], ◌∷◌, ◌++◌, length, take, Some, MatchBool}
 use Rattle.wiki_base.specs.declared.numbers.WordId.{WordId}
-use Rattle.wiki_base.specs.declared.numbers.Rev.{Rev}
 use Rattle.wiki_base.specs.declared.numbers.SessionId.{SessionId}
 use Rattle.codeco_terms.specs.GrammarParts.{GrammarParts}
 use Rattle.lexicon.specs.Words.{Listed, canonical_form_of}

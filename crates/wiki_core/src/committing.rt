@@ -92,8 +92,8 @@ impl Wiki {
         })
     }
 
-    // The form that names a live word.
-    fn form_of(&self, word: WordId) -> Result<Text8, Memory>
+    /// The form that names the word of an article that is there.
+    pub fn form_of(&self, word: WordId) -> Result<Text8, Memory>
         requires { IsSome (article_of self.now.state.pages.articles word) }
         ensures { IfOk result (λ form. canonical_form_of self.now.state.pages.words.live word ≡ Some form) }
     {

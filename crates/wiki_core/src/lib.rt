@@ -8,6 +8,7 @@ mod known;
 mod meaning;
 mod opening;
 mod parts;
+mod recalling;
 mod rewording;
 mod typing;
 mod wiki;

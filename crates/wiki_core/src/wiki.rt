@@ -85,8 +85,8 @@ impl Wiki {
         reply
     }
 
-    // What the wiki keeps fits its state.
-    fn is_kept(&self)
+    /// What the wiki keeps fits its state.
+    pub fn is_kept(&self)
         ensures { IsKept self.now }
     {
         self.store.is_kept();

@@ -8,6 +8,7 @@ use Rattle.reasoner.specs.Verdicts.{IsFiniteModel}
 use Rattle.wiki_talk.specs.declared.statuses.Status.{Status}
 use Rattle.wiki_talk.specs.declared.statuses.Status.TheVariants.{Asserted, Retracted, RedContradiction, RedBudget, Outside, Question, QuestionOutside}
 use Rattle.articles.specs.declared.sentences.Sentence.{Sentence}
+use Rattle.articles.specs.Articles.{AreInOrder}
 use Rattle.wiki_parts.specs.State.{State, IsSound, first_state}
 use Rattle.wiki_parts.specs.Meanings.{Meaning, stating, outside, asking, asking_outside, Means, MeansFaithfully}
 use Rattle.wiki_parts.specs.Knowledge.{sentences_in, Knows}
@@ -44,9 +45,11 @@ pub record IsStored (state : State) (sentence : Sentence) : Type 0 where
   pub fits : FitsMeaning sentence.status meaning
   pub few : length sentence.tokens ≤ MOST_TOKENS
 
--- each sentence is stored rightly, and the kept interpretation is a finite model of exactly what the wiki knows
+-- the articles stand in order of word number, each sentence is stored rightly, and the kept interpretation is a finite model of exactly
+-- what the wiki knows
 pub record IsKept (wiki : Holding) : Type 0 where
   pub sound : IsSound wiki.state
+  pub in_order : AreInOrder wiki.state.articles
   pub stored : All (IsStored wiki.state) (sentences_in wiki.state.articles)
   pub claims : List Claim
   pub known : Knows wiki.state claims

@@ -14,7 +14,7 @@ use Rattle.tableau_rules.specs.Searching.{IsLonger}
 use Rattle.reasoner.specs.Verdicts.{IsFiniteModel, HaveNoModel}
 use Rattle.answers.specs.Answered.{denied, IsInAll, IsOutsideSome}
 use Rattle.wiki_talk.specs.declared.statuses.Status.{Status}
-use Rattle.wiki_talk.specs.declared.statuses.Status.TheVariants.{Asserted, Retracted, RedContradiction, RedBudget, Outside, Question, QuestionOutside}
+use Rattle.wiki_talk.specs.declared.statuses.Status.TheVariants.{Asserted, RedContradiction, RedBudget, Outside, Question, QuestionOutside}
 use Rattle.articles.specs.declared.sentences.Sentence.{Sentence}
 use Rattle.articles.specs.declared.article.Article.{Article}
 use Rattle.wiki_parts.specs.State.{State}

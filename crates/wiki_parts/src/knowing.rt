@@ -16,6 +16,17 @@ use wiki_talk::Status;
 /// What is kept of the sentences of an article, in order.
 pub type Senses = List<Sense>;
 
+/// The same meanings once more.
+pub fn copied_senses(alloc: Global, senses: &Senses) -> Result<Senses, Memory>
+    ensures { IfOk result (λ copied. meanings_in copied ≡ meanings_in senses.now) }
+{
+    let mut copied = Vec::new(alloc);
+    for place in 0..senses.len() {
+        copied.push(senses.get(place).copy(alloc)?)?;
+    }
+    Ok(Senses::from_vec(copied))
+}
+
 /// The axioms that are known with these in place of those of some sentences of an article, from a place to before another.
 pub fn known_around(
     alloc: Global,

@@ -1,5 +1,5 @@
 -- What is known around a place of an article.
-use Rattle.std.proofs.Common.{◌≡◌, ℕ, zero, suc, min, ◌+◌, ◌<◌, ◌≤◌, cond, List, [], ◌∷◌, ◌++◌, length, take, drop, get_or, set, Option, Some, unwrap_or, refl, sym, ap, subst, ◌∙◌, append_assoc, arith}
+use Rattle.std.proofs.Common.{◌≡◌, ℕ, zero, suc, min, ◌+◌, ◌<◌, cond, List, [], ◌∷◌, ◌++◌, length, take, drop, get_or, set, Option, Some, unwrap_or, refl, sym, ap, subst, ◌∙◌, append_assoc, arith}
 use Rattle.std.specs.List.{slice_get, remove}
 use Rattle.std.proofs.lemmas.List.{drop_more, take-set, drop-set, take-append-drop, length-take, length-take-le, length-map}
 use Rattle.std.proofs.lemmas.List.Elements.{All-append}

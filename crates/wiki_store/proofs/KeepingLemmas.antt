@@ -1,5 +1,5 @@
 -- What is kept beside the state: as many meanings as sentences, and a model of what is known.
-use Rattle.std.proofs.Common.{◌≡◌, ℕ, ◌+◌, ◌<◌, ◌≤◌, Bool, true, false, cond, List, [], ◌∷◌, ◌++◌, length, All, Option, Some, None, unwrap_or, refl, sym, ap, subst, ◌∙◌, arith}
+use Rattle.std.proofs.Common.{◌≡◌, ℕ, ◌≤◌, Bool, true, false, cond, List, [], ◌∷◌, ◌++◌, length, All, Option, Some, None, unwrap_or, refl, sym, ap, subst, arith}
 use Rattle.std.specs.List.{slice_get}
 use Rattle.std.specs.Option.{option_and_then}
 use Rattle.std.proofs.lemmas.List.Elements.{All-nil, All-cons, All-head, All-tail, All-append}
@@ -15,7 +15,7 @@ use Rattle.reasoner.specs.Verdicts.{IsFiniteModel}
 use Rattle.wiki_talk.specs.declared.limits.TheConstants.{MOST_SENTENCES}
 use Rattle.articles.specs.declared.sentences.Sentence.{Sentence}
 use Rattle.articles.specs.declared.article.Article.{Article}
-use Rattle.articles.specs.Articles.{is_of, article_of}
+use Rattle.articles.specs.Articles.{AreInOrder, is_of, article_of}
 use Rattle.wiki_parts.specs.declared.meanings.Sense.{Sense}
 use Rattle.wiki_parts.specs.State.{State}
 use Rattle.wiki_parts.specs.Meanings.{Meaning, MeansFaithfully}
@@ -77,11 +77,12 @@ stored_in state (a ∷ articles) (own ∷ senses) faithful mean short =
 
 -- a wiki with what is kept beside its state keeps what it should
 pub is_kept : (state : State) (senses : List (List Sense)) (model : CheckedModel)
-    → ((tokens : List (List ℕ)) → MeansFaithfully state.grammar state.words tokens) → IsKeeping state senses model
+    → ((tokens : List (List ℕ)) → MeansFaithfully state.grammar state.words tokens) → IsKeeping state senses model → AreInOrder state.articles
     → IsFiniteModel (kept_interp model) (kept_claims model)
     → IsKept (record { state = state; interpretation = kept_interp model })
-is_kept state senses model faithful keeping finite = record {
+is_kept state senses model faithful keeping ordered finite = record {
   sound = keeping.sound;
+  in_order = ordered;
   stored = stored_in state state.articles senses faithful keeping.mean keeping.short;
   claims = kept_claims model;
   known = subst (Knows state) (sym keeping.known) (knows_from_known state.grammar state.words state.articles senses keeping.mean);

@@ -10,6 +10,7 @@ pub mod RememberedLemmas
 pub mod ToldLemmas
 pub mod UnwordLemmas
 pub mod PassedLemmas
+pub mod PutBackLemmas
 pub mod OtherWords
 pub mod SameMeanings
 pub mod WordKeeping

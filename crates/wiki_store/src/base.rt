@@ -101,6 +101,7 @@ impl Base {
         ensures { IsKept self.now }
     {
         is_faithful(&self.grammar);
+        let _ = self.articles.len();
         let _ = self.kept.interp();
     }
 

@@ -9,6 +9,7 @@ mod changing;
 mod joining;
 mod lending;
 mod reading;
+mod recalling;
 mod remembered;
 mod removing;
 mod rewording;

@@ -64,7 +64,7 @@ impl Base {
     }
 
     // What the sentences of the article of a word mean.
-    fn senses_of(&self, word: WordId) -> &Senses
+    pub(crate) fn senses_of(&self, word: WordId) -> &Senses
         requires { HasArticle self.now.state.articles word }
         ensures { (article : TheArticle) → article_of self.now.state.articles word ≡ Some article
             → MeanEach self.now.state.grammar self.now.state.words article.sentences (meanings_in result.now) }

@@ -1,5 +1,5 @@
 // The store and its step.
-ghost use Rattle.std.specs.Prelude.{◌≡◌, ◌≤◌, ◌<◌, length, IsTrue, IfOk, IfErr, OnErr, Some, option_copied};
+ghost use Rattle.std.specs.Prelude.{◌≡◌, ◌≤◌, ◌<◌, length, ◌↔◌, true, false, None, IsTrue, IfOk, IfErr, OnErr, Some, MatchOption, option_copied};
 ghost use Rattle.wiki_base.specs.declared.tokens.TheConstants.{MOST_TOKENS};
 ghost use Rattle.wiki_store.specs.Step.{only_tells};
 
@@ -7,6 +7,7 @@ use crate::base::Base;
 use crate::remembered::Remembered;
 use articles::Article;
 use codeco_checked::CheckedGrammar;
+use history::Kept;
 use lexicon::Lexicon;
 use logic_terms::Axioms;
 use std::alloc::Global;
@@ -50,6 +51,7 @@ impl Store {
     ghost use Rattle.wiki_parts.specs.Places.{word_named};
     ghost use Rattle.wiki_parts.specs.State.{IsSound};
     ghost use Rattle.wiki_store.specs.Appending.{with_appended, SpendsAtEnd};
+    ghost use Rattle.wiki_store.specs.PuttingBack.{CanBePut, put_back, IsOfArticle};
     ghost use Rattle.wiki_store.specs.Rewording.{IsGone, KeepsSentences};
     ghost use Rattle.wiki_store.specs.Spending.{SpendsBeyondKept, KeptHasEachUnknown};
     ghost use Rattle.wiki_store.specs.Step.{Step, Refuses, asks_store};
@@ -180,6 +182,29 @@ impl Store {
     {
         self.remembered.clear();
         self.base.unworded(word, lexicon);
+    }
+
+    /// What the article of a word has now, if there is one, with a copy of the model that is kept.
+    pub fn keep(&self, word: WordId) -> Result<Option<Kept>, Memory>
+        ensures { IfOk result (λ kept. MatchOption kept (article_of self.now.state.articles word ≡ None) (IsOfArticle self.now word)) }
+    {
+        self.base.keep(word)
+    }
+
+    /// Puts back what an article had: its sentences as they were, and the model of what is known with them. It is false exactly
+    /// where the article was changed as often as may be, and then nothing changes. It takes no memory.
+    pub fn put_back(&mut self, kept: Kept) -> bool
+        requires { CanBePut self.old.state kept }
+        ensures exactly { IsTrue result ↔ CanChange self.old.state.articles kept.article }
+        ensures done { result ≡ true → self.new ≡ put_back self.old kept }
+        ensures refused { result ≡ false → self.new ≡ self.old }
+    {
+        if self.base.put_back(kept) {
+            self.remembered.clear();
+            true
+        } else {
+            false
+        }
     }
 
     /// The grammar of sentences.

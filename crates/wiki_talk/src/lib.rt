@@ -16,5 +16,5 @@ pub use refusals::{BAD_REQUEST, Refusal, Title};
 pub use replies::{
     Meant, MenuView, Numbers, Reply, SentenceView, SentenceViews, WordView, WordViews,
 };
-pub use requests::Request;
+pub use requests::{LineRequest, Request};
 pub use statuses::Status;

@@ -27,7 +27,7 @@ pub enum Refusal {
     Stale { revision: u32 },
     /// The menu of the session's tokens doesn't have the text.
     NotOffered { text: Text8 },
-    /// The session has no tokens.
+    /// The session has no tokens; or no change is there to be taken back, or to be done again.
     Nothing,
     /// The session's tokens are no sentence yet; the menu tells what may follow.
     Unfinished { menu: MenuView },

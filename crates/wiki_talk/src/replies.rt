@@ -130,6 +130,15 @@ pub enum Reply {
     Refresh,
     /// The session is gone.
     Drop,
+    /// The newest change of sentences was taken back. It was one of this article, named by the canonical form of its word.
+    Undo {
+        article: Text8,
+    },
+    /// The newest change that was taken back was done again. It was one of this article, named by the canonical form of its
+    /// word.
+    Redo {
+        article: Text8,
+    },
     /// The request was refused, and nothing has changed.
     Refused(Refusal),
 }

@@ -95,3 +95,13 @@ pub enum Request {
         session: u32,
     },
 }
+
+/// What a line of the input asks: one request to the wiki, or that a change of sentences is taken back or done again.
+#[derive(Drop)]
+pub enum LineRequest {
+    Step(Request),
+    /// The newest change of sentences is to be taken back.
+    Undo,
+    /// The newest change that was taken back is to be done again.
+    Redo,
+}

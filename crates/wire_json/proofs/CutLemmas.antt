@@ -24,7 +24,7 @@ use Rattle.wiki_io.specs.declared.limits.TheConstants.{MAX_LINE}
 use Rattle.wiki_talk.specs.declared.requests.Request.{Request}
 use Rattle.wiki_talk.specs.declared.requests.Request.TheVariants as requests
 use Rattle.wire_json.specs.Values.{texts_items}
-use Rattle.wire_json.specs.Requests.{request_value, request_in, request_of}
+use Rattle.wire_json.specs.Requests.{request_value, line_request_in, line_request_of}
 use Rattle.wire_json.specs.Told.{CanBeTold, request_text}
 use Rattle.wire_json.proofs.TextLemmas.{IsWhole}
 
@@ -409,14 +409,14 @@ read-front ms h (suc n) short =
 
 -- ---- requests
 
-no_request : (t u : Bool) (o : Option Data) → o ≡ None → cond t (option_and_then request_in (cond u o None)) None ≡ None
+no_request : (t u : Bool) (o : Option Data) → o ≡ None → cond t (option_and_then line_request_in (cond u o None)) None ≡ None
 no_request true true o none = rw none refl
 no_request true false o none = refl
 no_request false u o none = refl
 
-request_of-unread : (line : List ℕ) → read line ≡ None → request_of line ≡ None
-unfolding request_of
-request_of-unread line none = no_request (nat_lt (length line) MAX_LINE) (is_utf8 line) (read line) none
+line_request_of-unread : (line : List ℕ) → read line ≡ None → line_request_of line ≡ None
+unfolding line_request_of
+line_request_of-unread line none = no_request (nat_lt (length line) MAX_LINE) (is_utf8 line) (read line) none
 
 AreTexts-texts : (texts : List (List ℕ)) → AreTexts (texts_items texts)
 AreTexts-texts [] = tt
@@ -457,9 +457,9 @@ simple_request (requests.Refresh session) h = (members_of (request_value (reques
 simple_request (requests.Drop session) h = (members_of (request_value (requests.Drop session)), refl, (tt, (fits session h.numbers, tt)))
 
 -- the line of a request that was cut before its last byte is no request
-pub cut_is_no_request : (r : Request) → CanBeTold r → (n : ℕ) → n < length (request_text r) → request_of (take n (request_text r)) ≡ None
+pub cut_is_no_request : (r : Request) → CanBeTold r → (n : ℕ) → n < length (request_text r) → line_request_of (take n (request_text r)) ≡ None
 cut_is_no_request r h n short =
     let simple = simple_request r h in
     let same : request_text r ≡ compact_text (object simple.0) = ap compact_text simple.1 in
     let within : n < length (compact_text (object simple.0)) = subst (λ l. n < length l) same short in
-    request_of-unread (take n (request_text r)) (ap (λ (l : List ℕ). read (take n l)) same ∙ read-front simple.0 simple.2 n within)
+    line_request_of-unread (take n (request_text r)) (ap (λ (l : List ℕ). read (take n l)) same ∙ read-front simple.0 simple.2 n within)

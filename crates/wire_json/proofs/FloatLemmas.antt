@@ -107,6 +107,8 @@ has_float-reply (replies.Menu menu whole shown) = rw (has_float-menu menu) refl
 has_float-reply (replies.Commit article status shown) = has_float-commit article status
 has_float-reply replies.Refresh = refl
 has_float-reply replies.Drop = refl
+has_float-reply (replies.Undo article) = refl
+has_float-reply (replies.Redo article) = refl
 has_float-reply (replies.Refused refusal) = has_float-refusal refusal
 
 pub has_float-request : (request : Request) → has_float (request_value request) ≡ false

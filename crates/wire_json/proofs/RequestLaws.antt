@@ -1,5 +1,7 @@
 -- The lines of requests read back as those requests, one after another.
-use Rattle.std.proofs.Common.{◌≡◌, inl, inr, ℕ, ◌<◌, Bool, true, false, cond, eqb, List, [], ◌∷◌, ◌++◌, length, map, All, flat_map, Option, Some, refl, sym, ap, ◌∙◌}
+use Rattle.std.proofs.Common.{◌≡◌, inl, inr, ℕ, ◌<◌, Bool, true, false, cond, eqb, List, [], ◌∷◌, ◌++◌, length, map, All, flat_map, Option, Some, option_map, refl, sym, ap, ◌∙◌}
+use Rattle.std.specs.Prelude.{codes, option_and_then}
+use Rattle.std.specs.Option.{option_or}
 use Rattle.std.specs.List.{onto_first}
 use Rattle.std.proofs.lemmas.Bool.{eqb-true}
 use Rattle.std.proofs.lemmas.List.{append_assoc, append-nil, map-append}
@@ -8,9 +10,12 @@ use Rattle.wiki_io.specs.Lines.{cut_lines, HasNoNewline, InputLine, text, line_o
 use Rattle.wiki_io.specs.declared.limits.TheConstants.{NEWLINE, MAX_LINE}
 use Rattle.wiki_io.proofs.LineLemmas.{cut_lines-line, line_of-short}
 use Rattle.wiki_talk.specs.declared.requests.Request.{Request}
-use Rattle.wire_json.specs.Requests.{request_value, request_of, request_line}
-use Rattle.wire_json.specs.Told.{CanBeTold, request_text, IsToldChange, EndsLine, ended}
-use Rattle.wire_json.proofs.LineLemmas.{request_of_read}
+use Rattle.wiki_talk.specs.declared.requests.LineRequest.{LineRequest}
+use Rattle.wiki_talk.specs.declared.requests.LineRequest.TheVariants.{Step}
+use Rattle.serde_json.specs.Data.{Data}
+use Rattle.wire_json.specs.Requests.{request_value, request_in, request_line, text_at, change_named, line_request_in, line_request_of}
+use Rattle.wire_json.specs.Told.{CanBeTold, asked_for, request_text, IsToldChange, EndsLine, ended}
+use Rattle.wire_json.proofs.LineLemmas.{line_request_of_read}
 use Rattle.wire_json.proofs.TextLemmas.{IsUtf8-compact_text, HasNoNewline-compact_text}
 use Rattle.wire_json.proofs.ReadLemmas.{IsTold-request, read-request_text, request_comes_back}
 use Rattle.wire_json.proofs.LengthLemmas.{request_line-text, change-fits}
@@ -18,11 +23,16 @@ pub use Rattle.wire_json.proofs.LengthLemmas.{length-request_line, length-change
 
 -- ---- one line
 
+comes_back : (value : Data) (r : Request) → request_in value ≡ Some r → line_request_in value ≡ asked_for r
+unfolding line_request_in
+comes_back value r is =
+    ap (λ (o : Option Request). option_or (option_map Step o) (option_and_then change_named (text_at (codes "do") value))) is
+
 -- the line of a request reads as that request, if it isn't too long
-pub reads_back : (r : Request) → CanBeTold r → length (request_text r) < MAX_LINE → request_of (request_text r) ≡ Some r
+pub reads_back : (r : Request) → CanBeTold r → length (request_text r) < MAX_LINE → line_request_of (request_text r) ≡ asked_for r
 reads_back r h short =
-    request_of_read (request_text r) (request_value r) short (IsUtf8-compact_text (request_value r) (IsTold-request r h)) (read-request_text r h)
-    ∙ request_comes_back r h
+    line_request_of_read (request_text r) (request_value r) short (IsUtf8-compact_text (request_value r) (IsTold-request r h)) (read-request_text r h)
+    ∙ comes_back (request_value r) r (request_comes_back r h)
 
 -- it has no newline but the one at its end
 pub is_one_line : (r : Request) → CanBeTold r → HasNoNewline (request_text r)
@@ -123,22 +133,22 @@ pub input_lines-former : (former : List ℕ) (rs : List Request) → EndsLine fo
 input_lines-former former rs whole h =
     input_lines-behind former (flat_map request_line rs) whole ∙ ap (λ (l : List InputLine). input_lines former ++ l) (input_lines-requests rs h)
 
-module _ (ask : InputLine → Option Request) (asks : (bytes : List ℕ) → ask (text bytes) ≡ request_of bytes) where
+module _ (ask : InputLine → Option LineRequest) (asks : (bytes : List ℕ) → ask (text bytes) ≡ line_request_of bytes) where
   -- each line asks for its request
-  asked_back : (rs : List Request) → All HasLine rs → map ask (map (λ r. text (request_text r)) rs) ≡ map Some rs
+  asked_back : (rs : List Request) → All HasLine rs → map ask (map (λ r. text (request_text r)) rs) ≡ map asked_for rs
   asked_back [] h = refl
   asked_back (r ∷ rs) h =
       let one = All-head HasLine r rs h in
-      ap (λ (o : Option Request). o ∷ map ask (map (λ r. text (request_text r)) rs)) (asks (request_text r) ∙ reads_back r one.0 one.1)
-      ∙ ap (λ (l : List (Option Request)). Some r ∷ l) (asked_back rs (All-tail HasLine r rs h))
+      ap (λ (o : Option LineRequest). o ∷ map ask (map (λ r. text (request_text r)) rs)) (asks (request_text r) ∙ reads_back r one.0 one.1)
+      ∙ ap (λ (l : List (Option LineRequest)). asked_for r ∷ l) (asked_back rs (All-tail HasLine r rs h))
 
   -- What the input and the lines of requests behind it ask: what the input asks, and then these requests. `ask` is what a line asks, which for
   -- bytes is the request that they are.
   pub asked-former : (former : List ℕ) (rs : List Request) → EndsLine former → All HasLine rs
-      → map ask (input_lines (former ++ flat_map request_line rs)) ≡ map ask (input_lines former) ++ map Some rs
+      → map ask (input_lines (former ++ flat_map request_line rs)) ≡ map ask (input_lines former) ++ map asked_for rs
   asked-former former rs whole h =
       ap (map ask) (input_lines-former former rs whole h) ∙ map-append ask (input_lines former) (map (λ r. text (request_text r)) rs)
-      ∙ ap (λ (l : List (Option Request)). map ask (input_lines former) ++ l) (asked_back rs h)
+      ∙ ap (λ (l : List (Option LineRequest)). map ask (input_lines former) ++ l) (asked_back rs h)
 
 -- ---- the lines of changes
 
@@ -154,18 +164,19 @@ pub input_lines-changes : (former : List ℕ) (rs : List Request) → EndsLine f
 input_lines-changes former rs whole h = input_lines-former former rs whole (HasLine-changes rs h)
 
 -- and what is asked is what the input asks, and then these changes
-pub asked-changes : (ask : InputLine → Option Request) → ((bytes : List ℕ) → ask (text bytes) ≡ request_of bytes) → (former : List ℕ) (rs : List Request)
+pub asked-changes : (ask : InputLine → Option LineRequest) → ((bytes : List ℕ) → ask (text bytes) ≡ line_request_of bytes)
+    → (former : List ℕ) (rs : List Request)
     → EndsLine former → All IsToldChange rs
-    → map ask (input_lines (former ++ flat_map request_line rs)) ≡ map ask (input_lines former) ++ map Some rs
+    → map ask (input_lines (former ++ flat_map request_line rs)) ≡ map ask (input_lines former) ++ map asked_for rs
 asked-changes ask asks former rs whole h = asked-former ask asks former rs whole (HasLine-changes rs h)
 
 -- the same behind an input whose last line may lack its newline, which is ended first
-pub asked-next : (ask : InputLine → Option Request) → ((bytes : List ℕ) → ask (text bytes) ≡ request_of bytes) → (former : List ℕ) (rs : List Request)
+pub asked-next : (ask : InputLine → Option LineRequest) → ((bytes : List ℕ) → ask (text bytes) ≡ line_request_of bytes) → (former : List ℕ) (rs : List Request)
     → All IsToldChange rs
-    → map ask (input_lines (ended former ++ flat_map request_line rs)) ≡ map ask (input_lines former) ++ map Some rs
+    → map ask (input_lines (ended former ++ flat_map request_line rs)) ≡ map ask (input_lines former) ++ map asked_for rs
 asked-next ask asks former rs h =
     asked-changes ask asks (ended former) rs (EndsLine-ended former) h
-    ∙ ap (λ (l : List InputLine). map ask l ++ map Some rs) (input_lines-ended former)
+    ∙ ap (λ (l : List InputLine). map ask l ++ map asked_for rs) (input_lines-ended former)
 
 -- the lines of requests are whole lines
 pub EndsLine-requests : (rs : List Request) → EndsLine (flat_map request_line rs)

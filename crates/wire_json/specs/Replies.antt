@@ -54,6 +54,11 @@ status_value name status = object (with_cause (cause_in status)
     (member (codes "status") (string (status_name status)) no_members)))
 
 -- what is done under this name, with the number of a session's tokens
+abbrev pub told_article_value : List ℕ → List ℕ → Data
+told_article_value name article = object
+    (member (codes "article") (string article)
+    (member (codes "done") (string name) no_members))
+
 abbrev pub tokens_value : List ℕ → ℕ → Data
 tokens_value name tokens = object
     (member (codes "done") (string name)
@@ -115,6 +120,8 @@ reply_value (replies.Menu menu whole shown) = object
 reply_value (replies.Commit article status shown) = commit_value article status
 reply_value replies.Refresh = done_value (codes "refresh")
 reply_value replies.Drop = done_value (codes "drop")
+reply_value (replies.Undo article) = told_article_value (codes "undo") article
+reply_value (replies.Redo article) = told_article_value (codes "redo") article
 reply_value (replies.Refused refusal) = refusal_value refusal
 
 abbrev pub reply_line : Reply → List ℕ

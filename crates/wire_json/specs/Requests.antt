@@ -1,6 +1,6 @@
 -- Requests as lines of JSON: which lines are requests, and the line of a request.
 use Rattle.std.specs.Prelude.{ℕ, List, [], ◌∷◌, length, codes, if◌then◌else◌, nat_lt, nat_le, Option, Some, None, find, option_map, option_and_then}
-use Rattle.std.specs.Option.{option_map_or}
+use Rattle.std.specs.Option.{option_map_or, option_or}
 use Rattle.std.specs.Str.{is_utf8, bytes_eq}
 use Rattle.serde_json.specs.Data.{Data, string, number, unsigned, array, object, Items, no_items, item, Members, no_members, member}
 use Rattle.serde_json.specs.Read.{read}
@@ -9,6 +9,8 @@ use Rattle.lexicon.specs.declared.words.TheConstants.{LAST_NUMBER}
 use Rattle.wiki_io.specs.declared.limits.TheConstants.{MAX_LINE}
 use Rattle.wiki_talk.specs.declared.requests.Request.{Request}
 use Rattle.wiki_talk.specs.declared.requests.Request.TheVariants as requests
+use Rattle.wiki_talk.specs.declared.requests.LineRequest.{LineRequest}
+use Rattle.wiki_talk.specs.declared.requests.LineRequest.TheVariants as lines
 use Rattle.wiki_talk.specs.Kinds.{kind_name, kind_named}
 use Rattle.wire_json.specs.Values.{line_text, texts_items}
 
@@ -163,6 +165,20 @@ data_of line = if is_utf8 line then read line else None
 -- the request of a line that is short enough
 unfoldable pub request_of : List ℕ → Option Request
 request_of line = if nat_lt (length line) MAX_LINE then option_and_then request_in (data_of line) else None
+
+-- ---- what a line of the input asks
+
+-- the names by which a change of sentences is taken back, or done again
+abbrev pub change_named : List ℕ → Option LineRequest
+change_named name = if bytes_eq name (codes "undo") then Some lines.Undo else (if bytes_eq name (codes "redo") then Some lines.Redo else None)
+
+-- the request that an object describes; or, by its name alone, that a change is taken back or done again
+unfoldable pub line_request_in : Data → Option LineRequest
+line_request_in value = option_or (option_map lines.Step (request_in value)) (option_and_then change_named (text_at (codes "do") value))
+
+-- the same of a line that is short enough
+unfoldable pub line_request_of : List ℕ → Option LineRequest
+line_request_of line = if nat_lt (length line) MAX_LINE then option_and_then line_request_in (data_of line) else None
 
 -- ---- the line of a request
 

@@ -6,6 +6,8 @@ use Rattle.wiki_base.specs.declared.tokens.TheConstants.{MOST_TOKENS}
 use Rattle.wiki_io.specs.declared.limits.TheConstants.{NEWLINE}
 use Rattle.lexicon.specs.declared.words.TheConstants.{LAST_NUMBER}
 use Rattle.wiki_talk.specs.declared.requests.Request.{Request}
+use Rattle.wiki_talk.specs.declared.requests.LineRequest.{LineRequest}
+use Rattle.wiki_talk.specs.declared.requests.LineRequest.TheVariants.{Step}
 use Rattle.wiki_talk.specs.declared.requests.Request.TheVariants as requests
 use Rattle.wire_json.specs.Requests.{request_value}
 
@@ -114,8 +116,12 @@ ended [] = []
 ended (b ∷ []) = if b == NEWLINE then b ∷ [] else b ∷ NEWLINE ∷ []
 ended (b ∷ c ∷ bytes) = b ∷ ended (c ∷ bytes)
 
+-- what the line of a request asks
+abbrev pub asked_for : Request → Option LineRequest
+asked_for request = Some (Step request)
+
 -- What the first n bytes of a request's line ask: nothing where there are none, no request where the line was cut, and the request where at
 -- most its newline lacks.
-abbrev pub asked_by_front : ℕ → Request → List (Option Request)
+abbrev pub asked_by_front : ℕ → Request → List (Option LineRequest)
 asked_by_front zero request = []
-asked_by_front (suc n) request = if nat_lt (suc n) (length (request_text request)) then None ∷ [] else Some request ∷ []
+asked_by_front (suc n) request = if nat_lt (suc n) (length (request_text request)) then None ∷ [] else asked_for request ∷ []

@@ -10,5 +10,5 @@ mod statuses;
 mod values;
 mod write;
 
-pub use read::read_request;
+pub use read::{read_line_request, read_request};
 pub use write::{bad_request_line, reply_line, request_line};

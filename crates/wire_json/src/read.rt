@@ -1,7 +1,7 @@
 // The request of a line.
 ghost use Rattle.std.specs.Prelude.{◌≡◌, IfOk, option_map};
 ghost use Rattle.serde_json.specs.View.{view, items_view};
-ghost use Rattle.wire_json.specs.Requests.{text_at, texts_at, texts_in, word_in, find_in, words_in, parse_in, reword_in, unword_in, request_named, request_in, request_of};
+ghost use Rattle.wire_json.specs.Requests.{text_at, texts_at, texts_in, word_in, find_in, words_in, parse_in, reword_in, unword_in, request_named, request_in, request_of, change_named, line_request_in, line_request_of};
 
 use crate::sentences::{
     add_from, axioms_from, edit_from, read_from, reassert_from, remove_from, retract_from,
@@ -13,7 +13,7 @@ use serde_json::Value;
 use std::alloc::Global;
 use wiki_base::{Memory, Text8, Text8s};
 use wiki_io::MAX_LINE;
-use wiki_talk::{Request, kind_named};
+use wiki_talk::{LineRequest, Request, kind_named};
 
 /// The request of a line without its newline. `None` exactly where the line is too long (`MAX_LINE`) or is no
 /// request.
@@ -28,6 +28,42 @@ pub fn read_request(alloc: Global, line: &[u8]) -> Result<Option<Request>, Memor
         Ok(value) => request_from(alloc, &value),
         Err(error) if error.is_memory() => Err(Memory),
         Err(_) => Ok(None),
+    }
+}
+
+/// What a line of the input asks, without its newline: a request, or one of `undo` and `redo`. `None` exactly where the line
+/// is too long (`MAX_LINE`) or is none of these.
+#[tactic(auto, unfolding(crate::specs::Requests::line_request_of))]
+pub fn read_line_request(alloc: Global, line: &[u8]) -> Result<Option<LineRequest>, Memory>
+    ensures { IfOk result (λ request. request ≡ line_request_of line.now) }
+{
+    if MAX_LINE <= line.len() {
+        return Ok(None);
+    }
+    match Value::from_slice(alloc, line) {
+        Ok(value) => line_request_from(alloc, &value),
+        Err(error) if error.is_memory() => Err(Memory),
+        Err(_) => Ok(None),
+    }
+}
+
+#[tactic(auto, unfolding(crate::specs::Requests::line_request_in))]
+fn line_request_from(alloc: Global, value: &Value) -> Result<Option<LineRequest>, Memory>
+    ensures { IfOk result (λ request. request ≡ line_request_in (view value.now)) }
+{
+    match request_from(alloc, value)? {
+        Some(request) => Ok(Some(LineRequest::Step(request))),
+        None => Ok(text_of(value, "do").and_then(change_named)),
+    }
+}
+
+fn change_named(name: &str) -> Option<LineRequest>
+    ensures { result ≡ change_named name.now }
+{
+    match name {
+        "undo" => Some(LineRequest::Undo),
+        "redo" => Some(LineRequest::Redo),
+        _ => None,
     }
 }
 

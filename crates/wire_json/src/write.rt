@@ -2,7 +2,7 @@
 ghost use Rattle.std.specs.Prelude.{◌≡◌, IfOk, codes};
 ghost use Rattle.serde_json.specs.Data.{boolean, string, number, unsigned, array, object, no_members, member};
 ghost use Rattle.serde_json.specs.View.{view};
-ghost use Rattle.wire_json.specs.Replies.{reply_value, done_value, tokens_value, reply_line, bad_request_value, bad_request_line};
+ghost use Rattle.wire_json.specs.Replies.{reply_value, done_value, tokens_value, told_article_value, reply_line, bad_request_value, bad_request_line};
 ghost use Rattle.wire_json.specs.Values.{menu_value, sentences_items};
 ghost use Rattle.wire_json.specs.Requests.{request_value, request_line, place_value, session_value};
 
@@ -78,6 +78,8 @@ fn reply_value(alloc: Global, reply: &Reply) -> Result<Value, Memory>
         } => commit_value(alloc, article.as_str(), *status),
         Reply::Refresh => done_value(alloc, "refresh"),
         Reply::Drop => done_value(alloc, "drop"),
+        Reply::Undo { article } => told_article_value(alloc, "undo", article),
+        Reply::Redo { article } => told_article_value(alloc, "redo", article),
         Reply::Refused(refusal) => refusal_value(alloc, refusal),
     }
 }
@@ -134,6 +136,14 @@ fn tokens_value(alloc: Global, name: &str, tokens: u32) -> Result<Value, Memory>
     ensures { IfOk result (λ value. view value ≡ tokens_value name.now tokens) }
 {
     Ok(json!(in alloc; {"done": name, "tokens": tokens})?)
+}
+
+// A reply that tells the article of a change.
+fn told_article_value(alloc: Global, name: &str, article: &Text8) -> Result<Value, Memory>
+    ensures { IfOk result (λ value. view value ≡ told_article_value name.now article.now) }
+{
+    let article = article.as_str();
+    Ok(json!(in alloc; {"article": article, "done": name})?)
 }
 
 fn request_value(alloc: Global, request: &Request) -> Result<Value, Memory>

@@ -11,9 +11,9 @@ returns-in-Some-request c =
       | in-Some+in_ok-request-in-Some w ↦ rw (w.in-Some.is, w.request-is) w.in_ok-request-in-Some.ensures
       | in-None w ↦ rw (w.in-None.is, w.request-is) refl
     ] in
-    on_ok_weaker c.step_request-done.result
-    (λ stepped. stepped_request c.args.wiki.now (line_handed c.args.line) c.step_request-done.new.wiki c.in-Some-request.request
-    (sym c.in-Some-request.is ∙ is_asked) stepped) c.step_request-done.ensures
+    on_ok_weaker c.turn-done.result
+    (λ stepped. stepped_request c.args.wiki.now (line_handed c.args.line) c.turn-done.new.wiki c.in-Some-request.request
+    (sym c.in-Some-request.is ∙ is_asked) stepped) c.turn-done.ensures
 
 pub returns-in-None-request : goal.returns-in-None-request
 returns-in-None-request c =

@@ -3,7 +3,8 @@ use Rattle.acewiki.proofs.ServeLemmas.{Serves-stopped, Serves-link, ends_input}
 use Rattle.acewiki.proofs.serve.serve_wiki.Goals as goal
 
 pub returns-in-Done-clause-serves : goal.returns-in-Done-clause-serves
-returns-in-Done-clause-serves g c = Serves-link _ _ c.args.address.now _ _ _ _ _ c.in-Done.is c.step_input.ensures.steps c.serve_link.ensures.serves
+returns-in-Done-clause-serves g c = Serves-link _ _ c.args.address.now _ _ _ _ _ c.in-Done.is c.step_input.ensures.steps _
+    c.into_wiki-wiki.ensures c.serve_link.ensures.serves
 
 pub returns-in-Done-clause-read_fault : goal.returns-in-Done-clause-read_fault
 returns-in-Done-clause-read_fault g c = λ is. absurd (c.serve_link.ensures.read_fault is)

@@ -18,4 +18,4 @@ returns c =
     let finite = subst (λ (i : Interpretation). IsFiniteModel i (kept_claims c.self.inside.kept)) c.interp.ensures.part
     (c.interp.ensures.sound, c.interp.ensures.model) in
     subst IsKept c.self.view_is (is_kept inside c.self.inside.senses.items c.self.inside.kept (λ tokens. c.is_faithful.ensures inside.words tokens)
-    c.self.invariant.0 finite)
+    c.self.invariant.0 c.len.ensures.in_order finite)

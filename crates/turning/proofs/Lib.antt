@@ -1,0 +1,10 @@
+pub mod AlikeLemmas
+pub mod BackLemmas
+pub mod ChangeLemmas
+pub mod HearingLemmas
+pub mod MoveLemmas
+pub mod ReadyLemmas
+pub mod RunLemmas
+pub mod StandingLemmas
+pub mod TurnLemmas
+pub mod TwinLemmas

@@ -1,0 +1,46 @@
+use Rattle.std.proofs.Common.{◌≡◌, refl, inl, inr, sym, subst, ◌∙◌}
+use Rattle.std.proofs.lemmas.Option.{same_Some}
+use Rattle.articles.specs.Articles.{CanChange}
+use Rattle.history.specs.declared.kept.Kept.{Kept}
+use Rattle.wiki_store.specs.PuttingBack.{IsOfArticle}
+use Rattle.wiki_core.specs.Holding.{pages_held}
+use Rattle.wiki_core.specs.PuttingBack.{put_back}
+use Rattle.turning.proofs.TurnLemmas.{has_nothing, newest_there, at_last, from_can, onto_can}
+use Rattle.turning.proofs.turning.redo.Goals as goal
+
+pub returns-in_default-clause-turn : goal.returns-in_default-clause-turn
+returns-in_default-clause-turn c = (inl (has_nothing c.args.history.now.future (sym c.in_default.ensures)), refl, refl, refl)
+
+pub is_at_last_revision-requires : goal.is_at_last_revision-requires
+is_at_last_revision-requires c =
+    newest_there c.args.wiki.now.state.pages c.args.history.now.future c.requires.1 c.in-Some.next.now (sym c.in-Some.ensures)
+
+pub returns-then-is_at_last_revision-clause-turn : goal.returns-then-is_at_last_revision-clause-turn
+returns-then-is_at_last_revision-clause-turn c =
+    rw c.out_of_numbers.ensures (
+      inr (at_last c.args.wiki.now c.args.history.now.future c.in-Some.next.now (sym c.in-Some.ensures)
+          (c.is_at_last_revision.ensures.yes c.if-is_at_last_revision.true)),
+      refl,
+      refl,
+      refl,
+    )
+
+pub returns-clause-fits : goal.returns-clause-fits
+returns-clause-fits c =
+    let old = c.args.wiki.now in
+    let before = c.in-Some-redone.after in
+    let same : c.in-Some.next.now ≡ before =
+    same_Some c.in-Some.next.now before (c.in-Some.ensures ∙ sym c.in-Some-redone.ensures.entry) in
+    let can : CanChange old.state.pages.articles before.article =
+    subst (λ (kept : Kept). CanChange old.state.pages.articles kept.article) same (c.is_at_last_revision.ensures.no c.if-is_at_last_revision.false) in
+    let put : c.put_back-done.new.self ≡ put_back old before = c.put_back-done.ensures.done (c.put_back-done.ensures.exactly.1 can) in
+    let is : IsOfArticle (pages_held old) before.article c.in_ok-now.now =
+    subst (λ (kept : Kept). IsOfArticle (pages_held old) kept.article c.in_ok-now.now) same c.in_ok-now.ensures in
+    let newest = sym c.in-Some-redone.ensures.entry in
+    let ordered = c.is_kept.ensures.pages.in_order in
+    rw c.in-Some-redone.ensures.history (
+      onto_can old c.put_back-done.new.self c.args.history.now.future c.args.history.now.past c.requires.1 c.requires.0 ordered before newest c.in_ok-now.now is
+          put,
+      from_can old c.put_back-done.new.self c.args.history.now.future c.args.history.now.past c.requires.1 c.requires.0 ordered before newest c.in_ok-now.now is
+          put,
+    )

@@ -134,10 +134,8 @@ impl<R: Net + Clock> Sockets for TcpSockets<'_, R> {
     fn close(&mut self, _number: u32) {}
 
     fn shut(&mut self, number: u32) -> bool {
-        match self.streams.get(number as usize) {
-            Some(Some(stream)) => stream.shutdown(Shutdown::Write).is_ok(),
-            _ => false,
-        }
+        let stream = self.streams.get(number as usize);
+        matches!(stream, Some(Some(open)) if open.shutdown(Shutdown::Write).is_ok())
     }
 
     fn end(&mut self, number: u32) {

@@ -16,15 +16,19 @@ use absorb::absorb;
 use logic_terms::{Axioms, Names};
 use model_growth::grow;
 use owl_eval::{CheckedModel, Interp};
+use shared_search::propose;
 use std::alloc::Global;
 use wiki_base::Memory;
 
 // Below this budget whether axioms have a model depends on the kept interpretation and the search alone.
-const LEAST_GROWING_BUDGET: u64 = 100_000;
+const LEAST_PROPOSING_BUDGET: u64 = 100_000;
+
+// How much may be looked at for a proposal.
+const MOST_LOOKS: u64 = 10_000_000;
 
 /// Whether axioms over these names have a finite model. The kept interpretation is tried first, and then, from a budget of
-/// 100,000 on, one that grows out of it: where one of them is a model, no search is made. Else the systematic search over the
-/// absorbed knowledge decides, within `budget` rule applications.
+/// 100,000 on, one that grows out of it and one in which successors are shared: where one of them is a model, no search is made.
+/// Else the systematic search over the absorbed knowledge decides, within `budget` rule applications.
 pub fn verdict(
     alloc: Global,
     axioms: Axioms,
@@ -69,7 +73,7 @@ fn grown_verdict(
     ensures spent { IfOk result (λ v. IfSpent v (λ b. SpendsAll (claims_of axioms) names.now budget (graph_of b))) }
     ensures enough { IfOk result (λ v. IfSpent v (λ _. IsBelowEnough (claims_of axioms) names.now budget)) }
 {
-    if budget < LEAST_GROWING_BUDGET {
+    if budget < LEAST_PROPOSING_BUDGET {
         return searched_verdict(alloc, axioms, names, budget);
     }
     match grow(alloc, &interp, &axioms, names)? {
@@ -78,7 +82,7 @@ fn grown_verdict(
     }
 }
 
-// The verdict that an interpretation makes, if it is a model of the axioms, and else the search.
+// The verdict that a grown interpretation makes, if it is a model of the axioms, and else a search.
 fn tried_verdict(
     alloc: Global,
     interp: Interp,
@@ -107,8 +111,71 @@ fn tried_verdict(
     }
 }
 
-/// The verdict that the search alone makes, for axioms that the kept interpretation is not a model of.
+/// The verdict for axioms that the kept interpretation is not a model of: from a budget of 100,000 on an interpretation in which
+/// successors are shared is tried first, and then the search decides.
 pub fn searched_verdict(
+    alloc: Global,
+    axioms: Axioms,
+    names: &Names,
+    budget: u64,
+) -> Result<Verdict, Memory>
+    requires over { IsTrue (are_over names.now (claims_of axioms)) }
+    requires plain { IsTrue (are_plain (claims_of axioms)) }
+    ensures consistent { IfOk result (λ v. IfConsistent v (λ m. kept_claims m ≡ claims_of axioms)) }
+    ensures model { IfOk result (λ v. IfConsistent v (λ m. IsFiniteModel (kept_interp m) (claims_of axioms))) }
+    ensures inconsistent { IfOk result (λ v. IfInconsistent v (λ tree. ClosesAll (claims_of axioms) names.now (tree_of tree))) }
+    ensures impossible { IfOk result (λ v. IfInconsistent v (λ _. HaveNoModel (claims_of axioms))) }
+    ensures spent { IfOk result (λ v. IfSpent v (λ b. SpendsAll (claims_of axioms) names.now budget (graph_of b))) }
+    ensures enough { IfOk result (λ v. IfSpent v (λ _. IsBelowEnough (claims_of axioms) names.now budget)) }
+{
+    if budget < LEAST_PROPOSING_BUDGET {
+        return decided_verdict(alloc, axioms, names, budget);
+    }
+    match proposed(alloc, &axioms, names)? {
+        Some(interp) => shared_verdict(alloc, interp, axioms, names, budget),
+        None => decided_verdict(alloc, axioms, names, budget),
+    }
+}
+
+// An interpretation that may be a model of axioms.
+fn proposed(alloc: Global, axioms: &Axioms, names: &Names) -> Result<Option<Interp>, Memory>
+    requires { IsTrue (are_over names.now (claims_of axioms.now)) }
+{
+    let k = absorb(alloc, axioms, names)?;
+    propose(alloc, &k, axioms, MOST_LOOKS)
+}
+
+// The verdict that an interpretation makes, if it is a model of the axioms, and else the search.
+fn shared_verdict(
+    alloc: Global,
+    interp: Interp,
+    axioms: Axioms,
+    names: &Names,
+    budget: u64,
+) -> Result<Verdict, Memory>
+    requires over { IsTrue (are_over names.now (claims_of axioms)) }
+    requires plain { IsTrue (are_plain (claims_of axioms)) }
+    ensures consistent { IfOk result (λ v. IfConsistent v (λ m. kept_claims m ≡ claims_of axioms)) }
+    ensures model { IfOk result (λ v. IfConsistent v (λ m. IsFiniteModel (kept_interp m) (claims_of axioms))) }
+    ensures inconsistent { IfOk result (λ v. IfInconsistent v (λ tree. ClosesAll (claims_of axioms) names.now (tree_of tree))) }
+    ensures impossible { IfOk result (λ v. IfInconsistent v (λ _. HaveNoModel (claims_of axioms))) }
+    ensures spent { IfOk result (λ v. IfSpent v (λ b. SpendsAll (claims_of axioms) names.now budget (graph_of b))) }
+    ensures enough { IfOk result (λ v. IfSpent v (λ _. IsBelowEnough (claims_of axioms) names.now budget)) }
+{
+    match CheckedModel::new(interp, axioms) {
+        Ok(model) => {
+            let _ = model.interp();
+            Ok(Verdict::Consistent(model))
+        }
+        Err(refused) => {
+            let (_, axioms) = refused;
+            decided_verdict(alloc, axioms, names, budget)
+        }
+    }
+}
+
+// The verdict that the search alone makes.
+fn decided_verdict(
     alloc: Global,
     axioms: Axioms,
     names: &Names,

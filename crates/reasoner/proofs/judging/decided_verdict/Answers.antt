@@ -10,7 +10,7 @@ use Rattle.tableau.specs.Ends.{IsCutAt}
 use Rattle.tableau_bounds.proofs.Laws.{search_bounded}
 use Rattle.reasoner.specs.Decisions.{IfModel, IfTree, IfUndecided}
 use Rattle.reasoner.specs.Verdicts.{IsFiniteModel}
-use Rattle.reasoner.proofs.judging.searched_verdict.Goals as goal
+use Rattle.reasoner.proofs.judging.decided_verdict.Goals as goal
 
 pub checked-requires : goal.checked-requires
 checked-requires c =

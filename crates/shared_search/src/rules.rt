@@ -1,0 +1,401 @@
+// What a search is told: the rules for classes of labels, and what the names' elements are in.
+use crate::terms::{Form, Terms, Way};
+use logic_terms::{Axiom, Axioms, Class, Classes, Knowledge, Role};
+use std::alloc::Global;
+use std::collections::BTreeMap;
+use wiki_base::{Memory, WordId};
+
+// An element of all these classes is in this one.
+#[derive(Drop)]
+pub(crate) struct Rule {
+    pub(crate) body: Vec<usize>,
+    pub(crate) head: usize,
+}
+
+#[derive(Drop)]
+pub(crate) struct Rules {
+    pub(crate) terms: Terms,
+    pub(crate) rules: Vec<Rule>,
+    // The classes that each element is in.
+    pub(crate) general: Vec<usize>,
+    // The nodes of the names, and how many there are.
+    nodes: BTreeMap<u32, usize>,
+    pub(crate) roots: usize,
+    // The classes of names' nodes.
+    pub(crate) seeds: Vec<(usize, usize)>,
+    pub(crate) edges: Vec<(usize, Way, usize)>,
+    // The roles above a role.
+    above: BTreeMap<Way, Vec<Way>>,
+}
+
+// A rule that is being made: what it asks for, and of what it gives one.
+#[derive(Drop)]
+struct Sketch {
+    body: Vec<usize>,
+    heads: Vec<usize>,
+}
+
+impl Rules {
+    // The rules of axioms; their names, roles and facts are those of the knowledge that they were absorbed into.
+    pub(crate) fn new(alloc: Global, k: &Knowledge, axioms: &Axioms) -> Result<Rules, Memory> {
+        let mut rules = Rules {
+            terms: Terms::new(alloc),
+            rules: Vec::new(alloc),
+            general: Vec::new(alloc),
+            nodes: BTreeMap::new(alloc),
+            roots: 0,
+            seeds: Vec::new(alloc),
+            edges: Vec::new(alloc),
+            above: BTreeMap::new(alloc),
+        };
+        rules.take_names(k)?;
+        rules.take_roles(k)?;
+        for axiom in axioms.as_slice() {
+            if let Axiom::SubClass(below, above) = axiom {
+                rules.include(below, above)?;
+            }
+        }
+        rules.take_facts(k)?;
+        rules.complete(k)?;
+        Ok(rules)
+    }
+
+    // The node of a name.
+    pub(crate) fn node(&self, name: u32) -> usize {
+        self.nodes.get(&name).copied().unwrap_or(0)
+    }
+
+    pub(crate) fn above(&self, way: Way) -> &[Way] {
+        match self.above.get(&way) {
+            Some(above) => above.as_slice(),
+            None => &[],
+        }
+    }
+
+    pub(crate) fn is_below(&self, below: Way, above: Way) -> bool {
+        below == above || self.above(below).contains(&above)
+    }
+
+    fn take_names(&mut self, k: &Knowledge) -> Result<(), Memory> {
+        for entry in k.names() {
+            if entry.0.0 == entry.1.0 {
+                let _ = self.nodes.insert(entry.0.0, self.roots)?;
+                self.roots = self.roots.saturating_add(1);
+            }
+        }
+        for entry in k.names() {
+            let node = self.node(entry.1.0);
+            let _ = self.nodes.insert(entry.0.0, node)?;
+        }
+        self.roots = self.roots.max(1);
+        Ok(())
+    }
+
+    fn take_roles(&mut self, k: &Knowledge) -> Result<(), Memory> {
+        let alloc = self.terms.alloc;
+        for pair in k.hierarchy() {
+            let (below, above) = (Way::of(pair.0), Way::of(pair.1));
+            if let Some(ways) = self.above.get_mut(&below) {
+                ways.push(above)?;
+            } else {
+                let mut ways = Vec::new(alloc);
+                ways.push(above)?;
+                let _ = self.above.insert(below, ways)?;
+            }
+        }
+        Ok(())
+    }
+
+    fn take_facts(&mut self, k: &Knowledge) -> Result<(), Memory> {
+        for entry in k.assertions() {
+            let number = self.terms.number_of(&entry.1)?;
+            self.seed(entry.0, number)?;
+        }
+        for edge in k.edges() {
+            let (from, to) = (self.node(edge.1.0), self.node(edge.2.0));
+            self.edges.push((from, Way::of(edge.0), to))?;
+        }
+        Ok(())
+    }
+
+    fn seed(&mut self, name: WordId, number: usize) -> Result<(), Memory> {
+        let node = self.node(name.0);
+        self.seeds.push((node, number))?;
+        Ok(())
+    }
+
+    // Each element of the one class is in the other.
+    fn include(&mut self, below: &Class, above: &Class) -> Result<(), Memory> {
+        let mut sketch = self.sketch();
+        self.conclude(&mut sketch, above)?;
+        if is_joint(below) {
+            self.require(&mut sketch, below)?;
+            return self.add_rule(sketch);
+        }
+        let head = self.one_of(sketch)?;
+        self.imply(below, head)
+    }
+
+    fn sketch(&self) -> Sketch {
+        Sketch {
+            body: Vec::new(self.terms.alloc),
+            heads: Vec::new(self.terms.alloc),
+        }
+    }
+
+    // Adds the members of a class to what a rule gives. What has to be absent is asked for.
+    #[cycle(concluding)]
+    fn conclude(&mut self, sketch: &mut Sketch, class: &Class) -> Result<(), Memory> {
+        match class {
+            Class::Or(members) => self.conclude_each(sketch, members),
+            _ => {
+                let number = self.terms.number_of(class)?;
+                sketch.heads.push(number)?;
+                Ok(())
+            }
+        }
+    }
+
+    #[cycle(concluding)]
+    fn conclude_each(&mut self, sketch: &mut Sketch, classes: &Classes) -> Result<(), Memory> {
+        for place in 0..classes.len() {
+            self.conclude(sketch, classes.get(place))?;
+        }
+        Ok(())
+    }
+
+    // Each element of a class is in the one with this number.
+    #[cycle(implying)]
+    fn imply(&mut self, class: &Class, head: usize) -> Result<(), Memory> {
+        match class {
+            Class::Or(members) => self.imply_each(members, head),
+            Class::Some(role, inner) => {
+                let all = self.sent_back(*role, head)?;
+                self.imply(inner, all)
+            }
+            Class::Value(role, name) => {
+                let all = self.sent_back(*role, head)?;
+                self.seed(*name, all)
+            }
+            Class::And(members) => {
+                let mut sketch = self.sketch();
+                sketch.heads.push(head)?;
+                self.require_each(&mut sketch, members)?;
+                self.add_rule(sketch)
+            }
+            _ => {
+                let mut sketch = self.sketch();
+                sketch.heads.push(head)?;
+                self.require_plain(&mut sketch, class)?;
+                self.add_rule(sketch)
+            }
+        }
+    }
+
+    #[cycle(implying)]
+    fn imply_each(&mut self, classes: &Classes, head: usize) -> Result<(), Memory> {
+        for place in 0..classes.len() {
+            self.imply(classes.get(place), head)?;
+        }
+        Ok(())
+    }
+
+    // The class of what has to be in a class wherever something is related to it by the role.
+    fn sent_back(&mut self, role: Role, head: usize) -> Result<usize, Memory> {
+        self.terms.number(Form::All(Way::of(role).inverse(), head))
+    }
+
+    // Adds a class to what a rule asks for.
+    #[cycle(implying)]
+    fn require(&mut self, sketch: &mut Sketch, class: &Class) -> Result<(), Memory> {
+        match class {
+            Class::And(members) => self.require_each(sketch, members),
+            Class::Or(members) => {
+                let (marker, is_new) = self.marker(sketch, class)?;
+                if is_new {
+                    self.imply_each(members, marker)?;
+                }
+                Ok(())
+            }
+            Class::Some(role, inner) => {
+                let (marker, is_new) = self.marker(sketch, class)?;
+                if is_new {
+                    let all = self.sent_back(*role, marker)?;
+                    self.imply(inner, all)?;
+                }
+                Ok(())
+            }
+            Class::Value(role, name) => {
+                let (marker, is_new) = self.marker(sketch, class)?;
+                if is_new {
+                    let all = self.sent_back(*role, marker)?;
+                    self.seed(*name, all)?;
+                }
+                Ok(())
+            }
+            _ => self.require_plain(sketch, class),
+        }
+    }
+
+    #[cycle(implying)]
+    fn require_each(&mut self, sketch: &mut Sketch, classes: &Classes) -> Result<(), Memory> {
+        for place in 0..classes.len() {
+            self.require(sketch, classes.get(place))?;
+        }
+        Ok(())
+    }
+
+    // Asks for a class word, or gives the complement of another class.
+    fn require_plain(&mut self, sketch: &mut Sketch, class: &Class) -> Result<(), Memory> {
+        let number = self.terms.number_of(class)?;
+        match self.terms.form(number) {
+            Form::Thing => {}
+            Form::Named(_) => sketch.body.push(number)?,
+            _ => {
+                let complement = self.terms.complement(number)?;
+                sketch.heads.push(complement)?;
+            }
+        }
+        Ok(())
+    }
+
+    // Asks for a word of the search's own for a class, and answers whether it is new.
+    fn marker(&mut self, sketch: &mut Sketch, class: &Class) -> Result<(usize, bool), Memory> {
+        let number = self.terms.number_of(class)?;
+        let form = Form::Marker(number);
+        let is_new = self.terms.known(form).is_none();
+        let marker = self.terms.number(form)?;
+        sketch.body.push(marker)?;
+        Ok((marker, is_new))
+    }
+
+    // The class of what is in one of the classes that a rule gives.
+    fn one_of(&mut self, sketch: Sketch) -> Result<usize, Memory> {
+        let Sketch { heads, .. } = sketch;
+        match heads.first().copied() {
+            Some(only) if heads.len() == 1 => Ok(only),
+            _ => self.terms.union(heads),
+        }
+    }
+
+    // Adds a rule, which asks in place of the complement of a class word for the word.
+    fn add_rule(&mut self, sketch: Sketch) -> Result<(), Memory> {
+        let Sketch { mut body, heads } = sketch;
+        let mut left = Vec::new(self.terms.alloc);
+        for number in &heads {
+            match self.terms.form(*number) {
+                Form::Not(inner) if self.is_word(inner) => body.push(inner)?,
+                _ => left.push(*number)?,
+            }
+        }
+        let empty = Vec::new(self.terms.alloc);
+        let head = self.one_of(Sketch {
+            body: empty,
+            heads: left,
+        })?;
+        if body.is_empty() {
+            self.general.push(head)?;
+            return Ok(());
+        }
+        let rule = self.rules.len();
+        for number in &body {
+            self.terms.add_rule(*number, rule)?;
+        }
+        self.rules.push(Rule { body, head })?;
+        Ok(())
+    }
+
+    fn is_word(&self, number: usize) -> bool {
+        match self.terms.form(number) {
+            Form::Named(_) => true,
+            _ => false,
+        }
+    }
+
+    // Finds what classes ask of neighbours, and which unions a complement bears on.
+    fn complete(&mut self, k: &Knowledge) -> Result<(), Memory> {
+        for number in 0..self.terms.len() {
+            for place in 0..self.terms.parts(number).len() {
+                self.watch(number, place)?;
+            }
+        }
+        let given = self.terms.len();
+        self.send_all(k, 0, given)?;
+        let end = self.terms.len();
+        self.send_all(k, given, end)?;
+        for number in 0..self.terms.len() {
+            if let Form::Not(_) = self.terms.form(number) {
+                let _ = self.terms.complement(number)?;
+            }
+        }
+        Ok(())
+    }
+
+    fn watch(&mut self, number: usize, place: usize) -> Result<(), Memory> {
+        if let Form::Or(_) = self.terms.form(number) {
+            if let Some(part) = self.terms.parts(number).get(place).copied() {
+                let denial = self.terms.complement(part)?;
+                self.terms.add_watcher(denial, number)?;
+            }
+        }
+        Ok(())
+    }
+
+    // Finds what the classes with these numbers ask of neighbours.
+    fn send_all(&mut self, k: &Knowledge, first: usize, end: usize) -> Result<(), Memory> {
+        for number in first..end {
+            if let Form::All(way, part) = self.terms.form(number) {
+                self.terms.add_sent(number, way, part)?;
+            }
+            if let Some(way) = self.way_of_all(number) {
+                for word in k.transitive() {
+                    self.carry(number, way, word.0, false)?;
+                    self.carry(number, way, word.0, true)?;
+                }
+            }
+        }
+        Ok(())
+    }
+
+    // The role of a class that speaks of all successors.
+    fn way_of_all(&self, number: usize) -> Option<Way> {
+        match self.terms.form(number) {
+            Form::All(way, _) => Some(way),
+            Form::Not(inner) => match self.terms.form(inner) {
+                Form::Value(way, _) => Some(way),
+                _ => None,
+            },
+            _ => None,
+        }
+    }
+
+    // Adds what a class asks of neighbours by a transitive role.
+    fn carry(&mut self, number: usize, way: Way, word: u32, inverted: bool) -> Result<(), Memory> {
+        let carrier = Way { word, inverted };
+        if !self.is_below(carrier, way) {
+            return Ok(());
+        }
+        let along = match self.terms.form(number) {
+            Form::All(_, part) => self.terms.number(Form::All(carrier, part))?,
+            Form::Not(inner) => match self.terms.form(inner) {
+                Form::Value(_, name) => {
+                    let value = self.terms.number(Form::Value(carrier, name))?;
+                    self.terms.number(Form::Not(value))?
+                }
+                _ => number,
+            },
+            _ => number,
+        };
+        self.terms.add_sent(number, carrier, along)
+    }
+}
+
+// Whether a class has all of several parts, or is none that a rule for others can speak of.
+fn is_joint(class: &Class) -> bool {
+    match class {
+        Class::Or(_) => false,
+        Class::Some(_, _) => false,
+        Class::Value(_, _) => false,
+        _ => true,
+    }
+}

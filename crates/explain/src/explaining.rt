@@ -10,9 +10,9 @@ ghost use Rattle.explain.specs.Answers.{claims_in, IfReason, IfConsistent, IfSpe
 ghost use Rattle.explain.specs.Reasons.{places_of, stated_at, without, IsReason, IsAsked, IsUndecided};
 ghost use Rattle.explain.specs.Narrow.{AreFit, IsShut};
 
-use crate::gathering::{behind, first_places, joined};
+use crate::gathering::{behind, first_of, first_places, joined};
 use crate::inquiry::Inquiry;
-use crate::narrowing::{Finding, found, judged};
+use crate::narrowing::{core_of, judged};
 use crate::part::Part;
 use crate::showing::models;
 use crate::why::Why;
@@ -24,8 +24,8 @@ use tableau_rules::Closed;
 use wiki_base::Memory;
 
 /// Why the parts contradict each other: those that are left where, from the first one to the last, each is left out without which the
-/// others still have no finite model. Each search may take `budget` rule applications. A part without which the others have a
-/// model is found by halving: what is above a list without a model has none, and a model of a list is one of what is below it.
+/// others still have no finite model. Each search may take `budget` rule applications. Only parts that a closed tree rests on are
+/// tried one by one: what is above a list without a model has none, and a model of a list is one of what is below it.
 pub fn explain(alloc: Global, parts: &[Part], names: &Names, budget: u64) -> Result<Why, Memory>
     requires over { All (λ claims. IsTrue (are_over names.now claims)) (claims_in parts.now) }
     requires plain { All (λ claims. IsTrue (are_plain claims)) (claims_in parts.now) }
@@ -51,7 +51,7 @@ pub fn explain(alloc: Global, parts: &[Part], names: &Names, budget: u64) -> Res
     }
 }
 
-// Takes places from the front of the rest, until no part can be left out.
+// Tries the parts that closed trees rest on, from the first one on, until none can be left out.
 fn reduced(
     alloc: Global,
     inquiry: &Inquiry<'_>,
@@ -74,21 +74,20 @@ fn reduced(
     let mut kept = List::new(alloc);
     let mut shown = List::new(alloc);
     let mut from = 0;
-    let mut closed = closed;
-    while from < all.len() {
-        match found(alloc, inquiry, kept.as_slice(), behind(all, from), closed)? {
-            Finding::Whole(tree) => {
-                closed = tree;
-                from = all.len();
+    let mut core = core_of(alloc, inquiry, &[], all, 0, closed)?;
+    while let Some(place) = first_of(core.chosen.as_slice()) {
+        from = place + 1;
+        match judged(alloc, inquiry, kept.as_slice(), behind(all, from))? {
+            Verdict::Consistent(model) => {
+                kept.push(place)?;
+                shown.push(model.interp().copy()?)?;
+                let _ = core.chosen.remove(0);
             }
-            Finding::Needed(low, interp, tree) => {
-                kept.push(all[from + low])?;
-                shown.push(interp)?;
-                from += low + 1;
-                closed = tree;
+            Verdict::Inconsistent(closed) => {
+                core = core_of(alloc, inquiry, kept.as_slice(), all, from, closed)?;
             }
-            Finding::Unknown(low) => {
-                let asked = joined(alloc, kept.as_slice(), behind(all, from + low + 1))?;
+            Verdict::Spent(_) => {
+                let asked = joined(alloc, kept.as_slice(), behind(all, from))?;
                 return Ok(Why::Spent(asked));
             }
         }
@@ -96,7 +95,7 @@ fn reduced(
     let models = models(alloc, inquiry.parts, kept.as_slice(), shown.as_slice())?;
     Ok(Why::Reason {
         kept,
-        closed,
+        closed: core.closed,
         models,
     })
 }

@@ -1,5 +1,5 @@
 // Lists of places, and the axioms of the parts there.
-ghost use Rattle.std.specs.Prelude.{◌≡◌, ◌++◌, ◌≤◌, drop, length, IfOk};
+ghost use Rattle.std.specs.Prelude.{◌≡◌, ◌++◌, ◌∷◌, [], ◌≤◌, drop, length, IfOk, MatchOption};
 ghost use Rattle.logic_terms.specs.Shown.{claims_of};
 ghost use Rattle.explain.specs.Answers.{claims_in};
 ghost use Rattle.explain.specs.Reasons.{places_from, stated_at, without};
@@ -27,6 +27,16 @@ pub(crate) fn behind(places: &[usize], from: usize) -> &[usize]
     ensures { result.now ≡ drop from places.now }
 {
     &places[from..]
+}
+
+// The first place of a list.
+pub(crate) fn first_of(places: &[usize]) -> Option<usize>
+    ensures { MatchOption result (places.now ≡ []) (λ place. places.now ≡ place ∷ drop 1 places.now) }
+{
+    match places {
+        [] => None,
+        [first, ..] => Some(*first),
+    }
 }
 
 // The places but for one.

@@ -7,6 +7,9 @@ mod inquiry;
 mod narrowing;
 mod part;
 mod showing;
+mod sources;
+mod tracing;
+mod uses;
 mod why;
 
 pub use explaining::explain;

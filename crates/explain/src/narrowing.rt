@@ -1,33 +1,29 @@
-// The last place from which on the rest of a list still contradicts what is kept.
-ghost use Rattle.std.specs.Prelude.{◌≡◌, ◌++◌, ◌<◌, ◌+◌, drop, length, IfOk, IsTrue};
+// The parts with which the kept ones contradict each other.
+ghost use Rattle.std.specs.Prelude.{◌≡◌, ◌++◌, ◌∷◌, ◌≤◌, drop, length, IfOk, OnOk, if◌then◌else◌};
 ghost use Rattle.owl_eval.specs.Checked.{kept_interp, kept_claims};
 ghost use Rattle.reasoner.specs.Verdicts.{IfConsistent, IfInconsistent, IfSpent, IsFiniteModel};
 ghost use Rattle.explain.specs.Answers.{claims_in};
-ghost use Rattle.explain.specs.Reasons.{stated_at, IsUndecided};
-ghost use Rattle.explain.specs.Narrow.{AreFit, IsBound, IsShut, IsEdge, IsFound};
+ghost use Rattle.explain.specs.Reasons.{places_of, stated_at, IsUndecided};
+ghost use Rattle.explain.specs.Narrow.{AreFit, AreBetween, IsCore, IsShut};
 
 use crate::gathering::{behind, gathered, joined};
 use crate::inquiry::Inquiry;
-use owl_eval::{CheckedModel, Interp};
+use crate::sources::serves;
+use crate::tracing::traced;
+use crate::uses::Uses;
+use absorb::absorb;
+use lists::List;
+use logic_terms::Knowledge;
 use reasoner::{Verdict, searched_verdict};
 use std::alloc::Global;
 use tableau_rules::Closed;
 use wiki_base::Memory;
 
-// What is known of a list that isn't known to contradict itself.
+// Places with which the kept parts contradict each other, as the tree shows.
 #[derive(Drop)]
-pub(crate) enum Bound {
-    Model(Interp),
-    Undecided,
-}
-
-// The rest of a list from `low` on contradicts what is kept, as the tree shows; of the rest from `high` on the bound is known.
-#[derive(Drop)]
-pub(crate) struct Edge {
-    pub(crate) low: usize,
-    pub(crate) high: usize,
+pub(crate) struct Core {
+    pub(crate) chosen: List<usize>,
     pub(crate) closed: Closed,
-    pub(crate) bound: Bound,
 }
 
 // Whether the parts at the places of both lists have a finite model together, as the search finds within the budget.
@@ -51,113 +47,84 @@ pub(crate) fn judged(
     searched_verdict(alloc, axioms, inquiry.names, inquiry.budget)
 }
 
-// What a model says of its axioms.
-pub(crate) fn bound_of(model: &CheckedModel) -> Result<Bound, Memory>
-    ensures { IfOk result (λ bound. bound ≡ Bound.Model (kept_interp model.now)) }
-{
-    Ok(Bound::Model(model.interp().copy()?))
-}
-
-// The same edge, nearer to its end.
-fn halved(
+// The places from one on with which the kept parts contradict each other: those that the tree of all of them seems to rest on,
+// where a search confirms it, and else all.
+pub(crate) fn core_of(
     alloc: Global,
     inquiry: &Inquiry<'_>,
     kept: &[usize],
-    rest: &[usize],
-    edge: Edge,
-) -> Result<Edge, Memory>
-    requires fit { AreFit (claims_in inquiry.now.parts.now) inquiry.now.names.now }
-    requires edge { IsEdge (claims_in inquiry.now.parts.now) inquiry.now.names.now inquiry.now.budget kept.now rest.now edge }
-    requires wide { edge.low + 1 < edge.high }
-    ensures edge { IfOk result (IsEdge (claims_in inquiry.now.parts.now) inquiry.now.names.now inquiry.now.budget kept.now rest.now) }
-    ensures nearer { IfOk result (λ made. made.high + edge.low < edge.high + made.low) }
-{
-    let middle = edge.low + (edge.high - edge.low) / 2;
-    match judged(alloc, inquiry, kept, behind(rest, middle))? {
-        Verdict::Inconsistent(closed) => Ok(Edge {
-            low: middle,
-            high: edge.high,
-            closed,
-            bound: edge.bound,
-        }),
-        Verdict::Consistent(model) => Ok(Edge {
-            low: edge.low,
-            high: middle,
-            closed: edge.closed,
-            bound: bound_of(&model)?,
-        }),
-        Verdict::Spent(_) => Ok(Edge {
-            low: edge.low,
-            high: middle,
-            closed: edge.closed,
-            bound: Bound::Undecided,
-        }),
-    }
-}
-
-// The edge at which one place alone makes the difference.
-pub(crate) fn narrowed(
-    alloc: Global,
-    inquiry: &Inquiry<'_>,
-    kept: &[usize],
-    rest: &[usize],
-    edge: Edge,
-) -> Result<Edge, Memory>
-    requires fit { AreFit (claims_in inquiry.now.parts.now) inquiry.now.names.now }
-    requires edge { IsEdge (claims_in inquiry.now.parts.now) inquiry.now.names.now inquiry.now.budget kept.now rest.now edge }
-    ensures edge { IfOk result (IsEdge (claims_in inquiry.now.parts.now) inquiry.now.names.now inquiry.now.budget kept.now rest.now) }
-    ensures narrow { IfOk result (λ made. made.high ≡ made.low + 1) }
-{
-    let mut edge = edge;
-    while edge.high - edge.low > 1 {
-        edge = halved(alloc, inquiry, kept, rest, edge)?;
-    }
-    Ok(edge)
-}
-
-// What was found of the rest of a list.
-#[derive(Drop)]
-pub(crate) enum Finding {
-    // Without the rest the kept parts contradict each other already.
-    Whole(Closed),
-    // The rest from the place on contradicts the kept parts, and behind it, as the interpretation shows, it doesn't.
-    Needed(usize, Interp, Closed),
-    // The same, but behind the place it was not decided.
-    Unknown(usize),
-}
-
-// From which place on the rest of a list, which isn't empty, has to stay.
-pub(crate) fn found(
-    alloc: Global,
-    inquiry: &Inquiry<'_>,
-    kept: &[usize],
-    rest: &[usize],
+    all: &[usize],
+    from: usize,
     closed: Closed,
-) -> Result<Finding, Memory>
+) -> Result<Core, Memory>
     requires fit { AreFit (claims_in inquiry.now.parts.now) inquiry.now.names.now }
-    requires some { 0 < length rest.now }
-    requires shut { IsShut (stated_at (claims_in inquiry.now.parts.now) (kept.now ++ rest.now)) inquiry.now.names.now closed }
-    ensures { IfOk result (IsFound (claims_in inquiry.now.parts.now) inquiry.now.names.now inquiry.now.budget kept.now rest.now) }
+    requires whole { all.now ≡ places_of (claims_in inquiry.now.parts.now) }
+    requires within { from ≤ length all.now }
+    requires shut { IsShut (stated_at (claims_in inquiry.now.parts.now) (kept.now ++ drop from all.now)) inquiry.now.names.now closed }
+    ensures { IfOk result (IsCore (claims_in inquiry.now.parts.now) inquiry.now.names.now kept.now from) }
 {
-    let bound = match judged(alloc, inquiry, kept, &[])? {
-        Verdict::Inconsistent(tree) => return Ok(Finding::Whole(tree)),
-        Verdict::Consistent(model) => bound_of(&model)?,
-        Verdict::Spent(_) => Bound::Undecided,
-    };
-    let edge = Edge {
-        low: 0,
-        high: rest.len(),
-        closed,
-        bound,
-    };
-    let Edge {
-        low,
-        high: _,
-        closed,
-        bound,
-    } = narrowed(alloc, inquiry, kept, rest, edge)?;
-    match bound {
-        Bound::Model(interp) => Ok(Finding::Needed(low, interp, closed)),
-        Bound::Undecided => Ok(Finding::Unknown(low)),
+    let rest = behind(all, from);
+    let chosen = proposed(alloc, inquiry, kept, rest, from, &closed)?;
+    match judged(alloc, inquiry, kept, chosen.as_slice())? {
+        Verdict::Inconsistent(closed) => Ok(Core { chosen, closed }),
+        _ => Ok(Core {
+            chosen: List::from_slice(alloc, rest)?,
+            closed,
+        }),
     }
+}
+
+// The places from one on that the tree seems to rest on.
+fn proposed(
+    alloc: Global,
+    inquiry: &Inquiry<'_>,
+    kept: &[usize],
+    rest: &[usize],
+    from: usize,
+    closed: &Closed,
+) -> Result<List<usize>, Memory>
+    requires fit { AreFit (claims_in inquiry.now.parts.now) inquiry.now.names.now }
+    requires within { from ≤ length inquiry.now.parts.now }
+    ensures { IfOk result (AreBetween from (length (claims_in inquiry.now.parts.now))) }
+{
+    let places = joined(alloc, kept, rest)?;
+    let axioms = gathered(alloc, inquiry.parts, places.as_slice())?;
+    let k = absorb(alloc, &axioms, inquiry.names)?;
+    let mut uses = traced(alloc, &k, closed)?;
+    for place in kept {
+        serves(alloc, inquiry, *place, &k, &mut uses)?;
+    }
+    serving(alloc, inquiry, from, &k, &mut uses)
+}
+
+// The places from one on of the parts that state something that is used.
+fn serving(
+    alloc: Global,
+    inquiry: &Inquiry<'_>,
+    from: usize,
+    k: &Knowledge,
+    uses: &mut Uses,
+) -> Result<List<usize>, Memory>
+    requires fit { AreFit (claims_in inquiry.now.parts.now) inquiry.now.names.now }
+    requires within { from ≤ length inquiry.now.parts.now }
+    ensures { IfOk result (AreBetween from (length (claims_in inquiry.now.parts.now))) }
+{
+    let mut chosen = List::new(alloc);
+    let mut place = inquiry.parts.len();
+    while place > from {
+        place -= 1;
+        let is_used = serves(alloc, inquiry, place, k, uses)?;
+        put_first(&mut chosen, place, is_used)?;
+    }
+    Ok(chosen)
+}
+
+// Puts a place in front of others where it is used.
+fn put_first(chosen: &mut List<usize>, place: usize, is_used: bool) -> Result<(), Memory>
+    ensures { OnOk result (chosen.new ≡ (if is_used then place ∷ chosen.old else chosen.old)) }
+{
+    if is_used {
+        chosen.insert(0, place)?;
+    }
+    Ok(())
 }

@@ -1,5 +1,5 @@
 -- What is answered for the text of a grammar.
-use Rattle.std.specs.Prelude.{◌≡◌, ℕ, List, length, nat_le, Result, Ok, Err, Bool}
+use Rattle.std.specs.Prelude.{◌≡◌, ℕ, List, length, nat_le, Result, Ok, Err, Bool, IsTrue, MatchBool}
 use Rattle.codeco_terms.specs.GrammarParts.{GrammarParts}
 use Rattle.codeco_text.specs.declared.written.WrittenItem.{WrittenItem}
 use Rattle.codeco_text.specs.Notation.{IsSpelling, IsSyntaxFault}
@@ -38,6 +38,17 @@ SaysOf text (TakenVariable n) = MakesFaulty text (TakenVariable n)
 SaysOf text (LabelKind n) = MakesFaulty text (LabelKind n)
 SaysOf text NoStart = MakesFaulty text NoStart
 SaysOf text Memory = Unit {0}
+
+-- the text is that of the grammar: it is in size, its declarations and rules make the grammar, and no fault holds of it
+pub record IsTextOf (text : List ℕ) (g : GrammarParts) : Type 0 where
+  pub in_size : IsTrue (is_in_size text)
+  pub makes : Makes text g
+  pub faultless : IsFaultless g
+
+-- the fault for which a text is refused: that it is over the size, or else what is said of it. Want of memory is none.
+abbrev pub IsFaultOf : List ℕ → GrammarFault → Type 0
+IsFaultOf text Memory = ⊥
+IsFaultOf text fault = MatchBool (is_in_size text) (SaysOf text fault) (fault ≡ TooLarge 0)
 
 -- the call gives this value, unless memory ran out
 abbrev pub Gives : {X : Type 0} → X → Result X GrammarFault → Type 0

@@ -6,3 +6,4 @@ mod Others
 pub mod Owners
 mod Places
 pub mod Reading
+pub mod Regrounding

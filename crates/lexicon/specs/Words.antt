@@ -86,6 +86,10 @@ with_forms listed id forms =
 abbrev pub without_word : Listed → WordId → Listed
 without_word listed id = record listed { live = others listed.live id }
 
+-- the list beside these terminals
+abbrev pub with_terminals : Listed → List (List ℕ) → Listed
+with_terminals listed terminals = record listed { terminals = terminals }
+
 -- the first of the texts that is a form of one of the words
 abbrev pub first_taken : List Word → List (List ℕ) → Option LexFault
 first_taken live [] = None
@@ -114,6 +118,11 @@ add_refusal listed forms = option_or (forms_refusal listed.live listed.terminals
 abbrev pub reword_refusal : Listed → WordId → Forms → Option LexFault
 reword_refusal listed id forms =
     option_map_or (λ _. forms_refusal (others listed.live id) listed.terminals forms) (forms_of listed.live id) (Some (NoWord id))
+
+-- the first form, by number of its word and then in the order of its forms, that is one of these terminals, or one of them raised
+abbrev pub reground_refusal : List Word → List (List ℕ) → Option LexFault
+reground_refusal [] terminals = None
+reground_refusal (word ∷ live) terminals = option_or (first_reserved terminals word.forms.texts) (reground_refusal live terminals)
 
 -- the fault is the cause, or want of memory
 abbrev pub IsRefusal : Option LexFault → LexFault → Type 0

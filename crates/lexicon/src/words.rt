@@ -1,6 +1,7 @@
 // The live words of a wiki.
 ghost use Rattle.std.specs.Prelude.{◌≡◌, ◌+◌, ◌<◌, ◌≤◌, ◌↔◌, [], length, IfOk, IfErr, IfSome, OnOk, OnErr, IsSome, is_some, IsTrue, MatchOption, slice_get, Some, None, option_copied};
 ghost use Rattle.lexicon.specs.declared.words.LexFault.TheVariants.{Memory as out_of_memory};
+ghost use Rattle.lexicon.specs.Words.{first_reserved, reground_refusal, IsRefusal};
 
 use crate::index::{Index, enter, forget, keys_of, make_room};
 use crate::kinds::{Forms, Texts};
@@ -96,7 +97,7 @@ impl Model for Lexicon {
 }
 
 impl Lexicon {
-    ghost use Rattle.lexicon.specs.Words.{IsLexicon, IsPlaceOf, owner, others, forms_of, with_word, with_forms, without_word, first_taken, first_reserved, fullness, forms_refusal, add_refusal, reword_refusal, IsRefusal};
+    ghost use Rattle.lexicon.specs.Words.{IsLexicon, IsPlaceOf, owner, others, forms_of, with_word, with_forms, without_word, with_terminals, first_taken, fullness, forms_refusal, add_refusal, reword_refusal};
     ghost use Rattle.lexicon.specs.declared.kinds.Forms.{Forms};
     ghost use Rattle.lexicon.specs.Readings.{readings_of};
     ghost use Rattle.lexicon.specs.Kinds.{IsComplete};
@@ -251,6 +252,19 @@ impl Lexicon {
         Ok(())
     }
 
+    /// Stands the words beside the terminals of another grammar. Refused is the first form, by number of its word and then in
+    /// the order of the word's forms, that the grammar has. The terminals are copied.
+    pub fn reground(&mut self, grammar: &Grammar) -> Result<(), LexFault>
+        ensures regrounded { OnOk result (self.new ≡ with_terminals self.old grammar.now.terminals) }
+        ensures free { OnOk result (reground_refusal self.old.live grammar.now.terminals ≡ None) }
+        ensures refused { IfErr result (IsRefusal (reground_refusal self.old.live grammar.now.terminals)) }
+        ensures unchanged { OnErr result (self.new ≡ self.old) }
+    {
+        refuse_words(&self.words, grammar.terminals())?;
+        self.terminals = grammar.terminals().copy()?;
+        Ok(())
+    }
+
     // Refuses forms for a new word, of which one is a form of a live word, or is reserved.
     fn refuse_new(&self, forms: &Forms) -> Result<(), LexFault>
         ensures free { OnOk result (forms_refusal self.now.live self.now.terminals forms.now ≡ None) }
@@ -266,7 +280,7 @@ impl Lexicon {
         ensures refused { IfErr result (IsRefusal (forms_refusal (others self.now.live id) self.now.terminals forms.now)) }
     {
         self.refuse_taken(id, &forms.texts)?;
-        self.refuse_reserved(&forms.texts)
+        refuse_reserved(&self.terminals, &forms.texts)
     }
 
     // Refuses texts of which one is a form of a live word other than the one with the number.
@@ -293,19 +307,6 @@ impl Lexicon {
         if owner == id { None } else { Some(owner) }
     }
 
-    // Refuses texts of which one is reserved.
-    fn refuse_reserved(&self, texts: &Texts) -> Result<(), LexFault>
-        ensures free { OnOk result (first_reserved self.now.terminals texts.now ≡ None) }
-        ensures reserved { IfErr result (IsRefusal (first_reserved self.now.terminals texts.now)) }
-    {
-        for text in texts.as_slice() {
-            if is_reserved(&self.terminals, text.as_str().as_bytes()) {
-                return Err(LexFault::Reserved { text: text.copy()? });
-            }
-        }
-        Ok(())
-    }
-
     // Refuses one more word at the limits.
     fn refuse_full(&self) -> Result<(), LexFault>
         ensures room { OnOk result (fullness self.now ≡ None) }
@@ -319,6 +320,30 @@ impl Lexicon {
         }
         Ok(())
     }
+}
+
+// Refuses words of which a form is one of the terminals, or one of them raised.
+fn refuse_words(words: &[Word], terminals: &Symbols) -> Result<(), LexFault>
+    ensures free { OnOk result (reground_refusal words.now terminals.now ≡ None) }
+    ensures reserved { IfErr result (IsRefusal (reground_refusal words.now terminals.now)) }
+{
+    for word in words {
+        refuse_reserved(terminals, &word.forms.texts)?;
+    }
+    Ok(())
+}
+
+// Refuses texts of which one is one of the terminals, or one of them raised.
+fn refuse_reserved(terminals: &Symbols, texts: &Texts) -> Result<(), LexFault>
+    ensures free { OnOk result (first_reserved terminals.now texts.now ≡ None) }
+    ensures reserved { IfErr result (IsRefusal (first_reserved terminals.now texts.now)) }
+{
+    for text in texts.as_slice() {
+        if is_reserved(terminals, text.as_str().as_bytes()) {
+            return Err(LexFault::Reserved { text: text.copy()? });
+        }
+    }
+    Ok(())
 }
 
 impl Copied for Lexicon {

@@ -27,6 +27,8 @@ const REFUSALS = new Map([
     ['InUse', (it) => ['The word can\'t be removed: ', placeLink(it.article, it.at), ' uses it, or stands in its article. Remove or edit that sentence first.']],
     ['Breaks', (it) => ['The forms can\'t be changed: ', placeLink(it.article, it.at), ' uses one of them. A form that a sentence uses can\'t be changed. Edit or remove that sentence first, or keep the form.']],
     ['BadStatus', (it) => ['The sentence has the status ', quoted(it.status), ' by now, with which this can\'t be done. Look at the article again.']],
+    ['GrammarRefused', (it) => ['The text is no grammar: it has the fault ', quoted(it.fault), `, at the byte, feature or rule ${it.at}. Nothing was changed.`]],
+    ['Bare', () => ['The rules of this grammar have no labels, so sentences would mean nothing by it. Give each rule one.']],
 ]);
 
 const STATUSES = new Map([
@@ -42,15 +44,13 @@ const STATUSES = new Map([
 ]);
 
 const CAUSES = new Map([
-    ['refused', (error) => (REFUSALS.get(error.reply.name) || unknownRefusal)(error.reply)],
+    ['refused', (error) => (REFUSALS.get(error.reply.name) || ((it) => ['The wiki refused this: ' + String(it.name) + '.']))(error.reply)],
     ['status', (error) => [STATUSES.get(error.status) || `The server answered with the status ${error.status}. Try again later, or ask whoever runs it.`]],
     ['network', () => ['The wiki can\'t be reached. Look whether the program runs and the network is there, and try again.']],
     ['mixed', () => ['The wiki took the words for those of somebody else, since the program was started again meanwhile. Nothing was committed. Try again.']],
     ['stopped', () => ['The answer was not waited for any longer.']],
     ['strange', () => ['What came back is no answer of the wiki; a page to sign in may have come in its place. Load this page again.']],
 ]);
-
-const unknownRefusal = (reply) => ['The wiki refused this: ' + String(reply.name) + '.'];
 
 export function explain(error) {
     if (!(error instanceof Trouble)) { return ['This page has a fault: ' + String(error && error.message)]; }

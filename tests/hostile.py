@@ -123,7 +123,7 @@ def is_number(text):
 TEXT, NUMBER, MAYBE, TEXTS, KIND = range(5)
 REQUESTS = {
     "word": {"kind": KIND, "forms": TEXTS}, "reword": {"word": TEXT, "forms": TEXTS}, "unword": {"word": TEXT},
-    "find": {"word": TEXT}, "words": {}, "parse": {"text": TEXT}, "add": {"article": TEXT, "at": MAYBE, "text": TEXT},
+    "find": {"word": TEXT}, "words": {}, "parse": {"text": TEXT}, "grammar": {"text": TEXT}, "add": {"article": TEXT, "at": MAYBE, "text": TEXT},
     "edit": {"article": TEXT, "at": NUMBER, "text": TEXT}, "remove": {"article": TEXT, "at": NUMBER},
     "retract": {"article": TEXT, "at": NUMBER}, "reassert": {"article": TEXT, "at": NUMBER}, "read": {"article": TEXT},
     "axioms": {"article": TEXT, "at": NUMBER}, "open": {"article": TEXT}, "type": {"session": NUMBER, "text": TEXT},
@@ -426,8 +426,8 @@ def hostile_lines(program, count, seed):
     for line, reply in zip(lines, replies):
         do = None if len(line) > 65535 else request_in(line)
         said = json.loads(reply)
-        if (said == BAD_REQUEST) != (do is None) or (do is not None and said.get("done") != do and said.get("refused") not in range(1, 16)):
-            wanted = "BadRequest" if do is None else f"{do} that is done, or a refusal 1 to 15"
+        if (said == BAD_REQUEST) != (do is None) or (do is not None and said.get("done") != do and said.get("refused") not in range(1, 18)):
+            wanted = "BadRequest" if do is None else f"{do} that is done, or a refusal 1 to 17"
             raise SystemExit(f"hostile: to {line[:400]!r} expected {wanted}, came {reply[:400]!r}")
 
 

@@ -4,13 +4,16 @@ journal_lines.py PROGRAM: random requests go to a wiki over HTTP, accepted and r
 writes the line that the journal should have, with the sentence as the article shows it. Then the former lines and the journal are
 replayed: each line has the reply that the change had. Texts with every escape come back from `find` as Python writes them.
 """
-import json, random, subprocess, sys
+import json, os, random, subprocess, sys
 from running import Wiki
 
 draw = random.Random(11)
 MOST_LINE = 16040
+FOLDER = os.path.dirname(os.path.dirname(os.path.abspath(__file__)))
+ENGLISH = json.loads(subprocess.check_output([f"{FOLDER}/tools/grammar", f"{FOLDER}/grammars/english.codeco"]))["text"]
+GRAMMARS = [ENGLISH, ENGLISH + "\n\t% \u00e9 \\ \"\n{mark} rp --> [which].", ENGLISH + " " * 20000, "text --> [a].", "text -->"]
 LETTERS = "abcxyzABCÄßéλЖ中𐐀"
-CHANGES = {"word", "reword", "unword", "add", "edit", "remove", "retract", "reassert"}
+CHANGES = {"word", "reword", "unword", "grammar", "add", "edit", "remove", "retract", "reassert"}
 
 
 def fail(words):
@@ -104,6 +107,8 @@ def ask(request):
 
 for turn in range(700):
     ask(change())
+    if turn % 100 == 50:
+        ask(dict(do="grammar", text=draw.choice(GRAMMARS)))
     if turn % 40 == 0:
         session = wiki.ask(do="open", article="Ada")["session"] if "Ada" in names else None
         if session is not None:
@@ -122,7 +127,7 @@ if not got.endswith(b"\n"):
 for number, (one, other) in enumerate(zip(lines, want)):
     if one != other:
         fail(f"line {number + 1} is\n{one.decode(errors='replace')}and not\n{other.decode()}")
-    if len(one) > MOST_LINE:
+    if len(one) > MOST_LINE and json.loads(one)["do"] != "grammar":
         fail(f"line {number + 1} has {len(one)} bytes, and not at most {MOST_LINE}")
 if len(lines) != len(want) or len(want) < 100:
     fail(f"the journal has {len(lines)} lines, of {len(want)} accepted changes (at least 100)")

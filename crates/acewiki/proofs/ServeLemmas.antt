@@ -107,6 +107,7 @@ answers_of_run first lines exchanges reached steps outside events last kept outs
   kept = kept;
   turns = run.turns;
   own = own_each events (map turn_in run.handlings) kept run.turns;
+  in_lines = run.in_lines;
   last = last;
   run = record { mid = reached; turns = steps.turns; steps = run.steps };
   tokens = tokens_own_recalling first.wiki.state.pages.grammar;

@@ -1,5 +1,5 @@
 -- What stands is what is read.
-use Rattle.std.proofs.Common.{◌≡◌, ℕ, ◌≤◌, List, [], ◌∷◌, ◌++◌, length, map, All, flat_map, Option, Some, None, refl, sym, ap, subst, ◌∙◌, arith}
+use Rattle.std.proofs.Common.{◌≡◌, ℕ, ◌≤◌, IsTrue, List, [], ◌∷◌, ◌++◌, length, map, All, flat_map, Option, Some, None, refl, sym, ap, subst, ◌∙◌, arith}
 use Rattle.std.specs.Prelude.{IsUtf8}
 use Rattle.std.proofs.lemmas.Grind.{flat_map-append}
 use Rattle.std.proofs.lemmas.List.Elements.{All-nil, All-cons, All-head, All-tail, All-weaker}
@@ -14,20 +14,21 @@ use Rattle.wiki_talk.specs.declared.replies.Reply.TheVariants as replies
 use Rattle.wiki_talk.specs.Turns.{Exchange, answered, no_request, request_in}
 use Rattle.lexicon.specs.declared.words.TheConstants.{LAST_NUMBER}
 use Rattle.wire_json.specs.Requests.{line_request_of}
-use Rattle.wire_json.specs.Told.{IsToldChange, asked_for, ended, most_line}
+use Rattle.wire_json.specs.Told.{IsToldChange, asked_for, ended, gives_line}
 use Rattle.serving.specs.Journal.{is_change}
-use Rattle.serving.specs.Handling.{Handling, waited, own_answer, replied, exchange_in, journal_in}
+use Rattle.serving.specs.Handling.{Handling, waited, own_answer, replied, exchange_in, journal_in, CameInLine}
 use Rattle.serving.specs.Changes.{itself, with_shown, changes_told, changes_in as changes_on}
+use Rattle.serving.proofs.InLineLemmas.{changes_in_lines}
 use Rattle.serving.proofs.JournalLaws.{asked-restart, length-journal_line}
 use Rattle.ace_grammar.specs.Grammar.{ace_grammar}
 use Rattle.ace_grammar.proofs.Soundness.{sound}
 use Rattle.wiki_core.specs.Journaled.{own_change, shown_change, changes_by, changes_of, IsPlainForm, FitsLine}
-use Rattle.turning.specs.Laws.{IsRun, asked_of}
+use Rattle.turning.specs.Laws.{IsRun, GiveUnraised, asked_of}
 use Rattle.turning.proofs.RunLemmas.{stands_again_recalling, changes_fit_recalling, undo_gives_back, redo_gives_back}
-use Rattle.wiki_core.proofs.BuiltInLemmas.{built_in_apart, built_in_short, built_in_utf8}
+use Rattle.wiki_core.proofs.BuiltInLemmas.{built_in_apart, built_in_utf8}
 use Rattle.acewiki.specs.Lines.{asked}
 use Rattle.acewiki.specs.Wiki.{Holding, new_wiki}
-use Rattle.acewiki.specs.Standing.{StandsAsRead, WritesShortLines}
+use Rattle.acewiki.specs.Standing.{StandsAsRead, most_written, WritesShortLines}
 use Rattle.acewiki.specs.Theorem.{HoldsOfRuns}
 use Rattle.acewiki.proofs.CompletenessLemmas.{does_what_is_free}
 
@@ -41,6 +42,7 @@ same_itself requests.Words = refl
 same_itself (requests.Parse sent) = refl
 same_itself (requests.Reword word forms) = refl
 same_itself (requests.Unword word) = refl
+same_itself (requests.Grammar sent) = refl
 same_itself (requests.Add article place sent) = refl
 same_itself (requests.Edit article place sent) = refl
 same_itself (requests.Remove article place) = refl
@@ -63,6 +65,7 @@ same_shown requests.Words shown = refl
 same_shown (requests.Parse sent) shown = refl
 same_shown (requests.Reword word forms) shown = refl
 same_shown (requests.Unword word) shown = refl
+same_shown (requests.Grammar sent) shown = refl
 same_shown (requests.Add article place sent) shown = refl
 same_shown (requests.Edit article place sent) shown = refl
 same_shown (requests.Remove article place) shown = refl
@@ -99,6 +102,7 @@ same_changes r (replies.Menu menu whole shown) = same_itself r
 same_changes r (replies.Commit article status shown) = refl
 same_changes r replies.Refresh = same_itself r
 same_changes r replies.Drop = same_itself r
+same_changes r replies.Grammar = same_itself r
 same_changes r (replies.Undo article) = same_itself r
 same_changes r (replies.Redo article) = same_itself r
 same_changes r (replies.Refused refusal) = refl
@@ -113,6 +117,10 @@ same_on_events (replied n request next reply ∷ handlings) =
     ∙ ap (λ (l : List Request). changes_by request reply ++ l) (same_on_events handlings)
 
 -- ---- a change that a line can tell
+
+-- if the request gives a grammar, its line isn't too long
+abbrev InLine : Request → Type 0
+InLine r = IsTrue (gives_line r)
 
 forms_utf8 : (forms : List (List ℕ)) → All IsPlainForm forms → All IsUtf8 forms
 forms_utf8 forms plain = All-weaker IsPlainForm IsUtf8 (λ form is. is.0) forms plain
@@ -132,35 +140,40 @@ no_number = All-nil (λ n. n ≤ LAST_NUMBER)
 one_number : (n : ℕ) → n ≤ LAST_NUMBER → All (λ n. n ≤ LAST_NUMBER) (n ∷ [])
 one_number n is = All-cons (λ n. n ≤ LAST_NUMBER) n [] is no_number
 
-told_if_fits : (r : Request) → FitsLine r → IsToldChange r
-told_if_fits (requests.Word kind forms) (plain, place) =
+told_if_fits : (r : Request) → FitsLine r × InLine r → IsToldChange r
+told_if_fits (requests.Word kind forms) ((plain, place), in_line) =
     (record { texts = forms_utf8 forms plain.0; numbers = no_number }, (forms_short forms plain.0, plain.1))
-told_if_fits (requests.Find word) (plain, place) = absurd plain
-told_if_fits requests.Words (plain, place) = absurd plain
-told_if_fits (requests.Parse sent) (plain, place) = absurd plain
-told_if_fits (requests.Reword word forms) (plain, place) = (
+told_if_fits (requests.Find word) ((plain, place), in_line) = absurd plain
+told_if_fits requests.Words ((plain, place), in_line) = absurd plain
+told_if_fits (requests.Parse sent) ((plain, place), in_line) = absurd plain
+told_if_fits (requests.Reword word forms) ((plain, place), in_line) = (
   record { texts = All-cons IsUtf8 word forms plain.0.0 (forms_utf8 forms plain.1.0); numbers = no_number },
   (plain.0.1, (forms_short forms plain.1.0, plain.1.1)),
 )
-told_if_fits (requests.Unword word) (plain, place) = (record { texts = one_text word plain.0; numbers = no_number }, plain.1)
-told_if_fits (requests.Add article None sent) (plain, place) =
+told_if_fits (requests.Unword word) ((plain, place), in_line) = (record { texts = one_text word plain.0; numbers = no_number }, plain.1)
+told_if_fits (requests.Grammar sent) ((plain, place), in_line) = (record { texts = one_text sent plain; numbers = no_number }, in_line)
+told_if_fits (requests.Add article None sent) ((plain, place), in_line) =
     (record { texts = two_texts article sent plain.0.0 plain.1.0; numbers = no_number }, (plain.0.1, plain.1.1))
-told_if_fits (requests.Add article (Some at) sent) (plain, place) =
+told_if_fits (requests.Add article (Some at) sent) ((plain, place), in_line) =
     (record { texts = two_texts article sent plain.0.0 plain.1.0; numbers = one_number at place }, (plain.0.1, plain.1.1))
-told_if_fits (requests.Edit article at sent) (plain, place) =
+told_if_fits (requests.Edit article at sent) ((plain, place), in_line) =
     (record { texts = two_texts article sent plain.0.0 plain.1.0; numbers = one_number at place }, (plain.0.1, plain.1.1))
-told_if_fits (requests.Remove article at) (plain, place) = (record { texts = one_text article plain.0; numbers = one_number at place }, plain.1)
-told_if_fits (requests.Retract article at) (plain, place) = (record { texts = one_text article plain.0; numbers = one_number at place }, plain.1)
-told_if_fits (requests.Reassert article at) (plain, place) = (record { texts = one_text article plain.0; numbers = one_number at place }, plain.1)
-told_if_fits (requests.Read article) (plain, place) = absurd plain
-told_if_fits (requests.Axioms article place) (plain, at) = absurd plain
-told_if_fits (requests.Begin article) (plain, place) = absurd plain
-told_if_fits (requests.Put session sent) (plain, place) = absurd plain
-told_if_fits (requests.Back session) (plain, place) = absurd plain
-told_if_fits (requests.Menu session) (plain, place) = absurd plain
-told_if_fits (requests.Commit session) (plain, place) = absurd plain
-told_if_fits (requests.Refresh session) (plain, place) = absurd plain
-told_if_fits (requests.Drop session) (plain, place) = absurd plain
+told_if_fits (requests.Remove article at) ((plain, place), in_line) = (record { texts = one_text article plain.0; numbers = one_number at place }, plain.1)
+told_if_fits (requests.Retract article at) ((plain, place), in_line) = (record { texts = one_text article plain.0; numbers = one_number at place }, plain.1)
+told_if_fits (requests.Reassert article at) ((plain, place), in_line) = (record { texts = one_text article plain.0; numbers = one_number at place }, plain.1)
+told_if_fits (requests.Read article) ((plain, place), in_line) = absurd plain
+told_if_fits (requests.Axioms article place) ((plain, at), in_line) = absurd plain
+told_if_fits (requests.Begin article) ((plain, place), in_line) = absurd plain
+told_if_fits (requests.Put session sent) ((plain, place), in_line) = absurd plain
+told_if_fits (requests.Back session) ((plain, place), in_line) = absurd plain
+told_if_fits (requests.Menu session) ((plain, place), in_line) = absurd plain
+told_if_fits (requests.Commit session) ((plain, place), in_line) = absurd plain
+told_if_fits (requests.Refresh session) ((plain, place), in_line) = absurd plain
+told_if_fits (requests.Drop session) ((plain, place), in_line) = absurd plain
+
+-- both hold of each
+all_both : {X : Type 0} (P Q : X → Type 0) (xs : List X) → All P xs → All Q xs → All (λ x. P x × Q x) xs
+all_both P Q xs ps qs k d in_range = (ps k d in_range, qs k d in_range)
 
 -- ---- parts of a list
 
@@ -175,7 +188,7 @@ All-last P (x ∷ xs) ys all = All-last P xs ys (All-tail P x (xs ++ ys) all)
 -- ---- short lines
 
 abbrev IsShort : Handling → Type 0
-IsShort handling = length (journal_in handling) ≤ most_line
+IsShort handling = length (journal_in handling) ≤ most_written handling
 
 short_one : (handling : Handling) → All IsToldChange (changes_on handling) → IsShort handling
 short_one waited told = omega arith
@@ -209,16 +222,19 @@ asked_text bytes = refl
 -- ---- both together
 
 module _ (budget : ℕ) (of_lines : List (Exchange LineRequest Reply)) (handlings : List Handling) (last : Holding)
-    (run : IsRun (new_wiki budget) of_lines (flat_map exchange_in handlings) last) where
+    (run : IsRun (new_wiki budget) of_lines (flat_map exchange_in handlings) last) (came : All CameInLine handlings)
+    (unraised : GiveUnraised of_lines (flat_map exchange_in handlings)) where
   abbrev events : List (Exchange Request Reply)
   events = flat_map exchange_in handlings
 
   -- each change that came over a connection is told by its line
   all_told : All IsToldChange (flat_map changes_on handlings)
   all_told =
-      subst (All IsToldChange) (sym (same_on_events handlings))
-      (All-weaker FitsLine IsToldChange told_if_fits (changes_of events)
-      (changes_fit_recalling ace_grammar sound built_in_apart built_in_short built_in_utf8 budget of_lines events last run))
+      All-weaker (λ r. FitsLine r × InLine r) IsToldChange told_if_fits (flat_map changes_on handlings)
+      (all_both FitsLine InLine (flat_map changes_on handlings)
+      (subst (All FitsLine) (sym (same_on_events handlings))
+      (changes_fit_recalling ace_grammar sound built_in_apart built_in_utf8 budget of_lines events last run unraised))
+      (changes_in_lines handlings came))
 
   pub short_lines : All IsShort handlings
   short_lines = short_each handlings all_told
@@ -239,12 +255,12 @@ module _ (budget : ℕ) (of_lines : List (Exchange LineRequest Reply)) (handling
       ∙ ap (λ (l : List LineRequest). asked_of of_lines ++ l) rest
 
 pub stands_as_read : StandsAsRead
-stands_as_read budget its_budget former of_lines again handlings last its_last of_former run its_lines its_run none its_none =
-    stands_again_recalling ace_grammar sound built_in_apart budget its_budget of_lines again (flat_map exchange_in handlings) last its_last run its_run
-    (asked_again budget of_lines handlings last run former again of_former its_lines) none its_none
+stands_as_read budget its_budget former of_lines again handlings last its_last of_former run came unraised its_lines its_run none its_none =
+    stands_again_recalling ace_grammar sound built_in_apart built_in_utf8 budget its_budget of_lines again (flat_map exchange_in handlings) last its_last
+    run its_run (asked_again budget of_lines handlings last run came unraised former again of_former its_lines) unraised none its_none
 
 pub writes_short_lines : WritesShortLines
-writes_short_lines budget of_lines handlings last run = short_lines budget of_lines handlings last run
+writes_short_lines = short_lines
 
 pub holds_of_runs : HoldsOfRuns
 holds_of_runs = record {

@@ -1,5 +1,5 @@
 -- The theorem of the program: what it does, command by command.
-use Rattle.std.specs.Prelude.{◌≡◌, ◌≢◌, ◌↔◌, ◌⊎◌, ℕ, ◌-◌, ◌<◌, ◌≤◌, Bool, IsTrue, List, [], ◌∷◌, ◌++◌, length, take, map, Option, Some, None, IfSome, ⊤}
+use Rattle.std.specs.Prelude.{◌≡◌, ◌≢◌, ◌↔◌, ◌⊎◌, ℕ, ◌-◌, ◌<◌, ◌≤◌, Bool, IsTrue, List, [], ◌∷◌, ◌++◌, length, take, map, All, Option, Some, None, IfSome, ⊤}
 use Rattle.std.specs.List.{flat_map}
 use Rattle.std.specs.Io.KnownBytes.{Consumes, Appends, IsAtEnd}
 use Rattle.wiki_io.specs.declared.limits.TheConstants.{MAX_INPUT}
@@ -12,7 +12,7 @@ use Rattle.wiki_talk.specs.declared.replies.Reply.{Reply}
 use Rattle.wiki_talk.specs.Turns.{Exchange, request_in}
 use Rattle.server.specs.Kept.{Kept}
 use Rattle.server.specs.Runs.{TakesAll, AreOwn}
-use Rattle.serving.specs.Handling.{Handling, turn_in, exchange_in, journal_in, response_in}
+use Rattle.serving.specs.Handling.{Handling, turn_in, exchange_in, journal_in, response_in, CameInLine}
 use Rattle.serving.specs.Delivering.{Delivers}
 use Rattle.serving.specs.Events.{Outside, WasHandled, CutsJournal}
 use Rattle.making.specs.declared.making.Made.TheVariants as made
@@ -115,11 +115,11 @@ pub record Replays (first : Recalling) (left taken : Option (List ℕ)) (outcome
 
 -- For every list of events, that is, for every interleaving of pieces that arrive on any connections, the bytes answered are
 -- a plain wiki's: there is one run of the plain wiki over what the lines of the input ask, with its history, and then what the events ask,
--- in order. By each of its steps every stored sentence has a derivation from the present words, every menu lists exactly the
+-- in order. By each of its steps every stored sentence has a derivation by the present grammar from the present words, every menu lists exactly the
 -- tokens that continue a partial derivation, the axioms of the asserted sentences are those that they mean and have the kept
 -- interpretation as a finite model, and a sentence that means axioms is red only where no finite interpretation is a model with
 -- them, or a budget is spent. What a connection asks is told by its own bytes alone, however they were cut, and what a session
--- holds by what that session heard. The journal is the lines of the accepted changes. On each connection's number the
+-- holds by what that session heard. The journal is the lines of the accepted changes, and each grammar that came has its line. On each connection's number the
 -- responses to its replies are sent, opening after opening, each whole where no send failed. Among them are sent the refusals of
 -- bytes that ask nothing and the files of the editor page: these are no replies, and the plain wiki has no step for them.
 pub record AnswersAsPlainWiki (first : Recalling) (lines : List InputLine) (outside : Outside) (events : List Event) (outside_after : Outside) : Type 0 where
@@ -131,6 +131,7 @@ pub record AnswersAsPlainWiki (first : Recalling) (lines : List InputLine) (outs
   pub own : AreOwn [] events (map turn_in handlings)
   pub last : Holding
   pub run : IsRun first of_lines (flat_map exchange_in handlings) last
+  pub in_lines : All CameInLine handlings
   pub tokens : TokensAreOwn first.wiki.state.pages.grammar
   pub journal : Appends outside.journal outside_after.journal (flat_map journal_in handlings)
   pub responses : Delivers (flat_map response_in handlings) outside.sent outside.send_faults outside_after.sent outside_after.send_faults

@@ -1,5 +1,5 @@
 -- What is known of a head that was read, and that it is read again in what comes later.
-use Rattle.std.proofs.Common.{◌≡◌, ◌⊎◌, ℕ, zero, suc, ◌+◌, ◌<◌, ◌≤◌, List, [], ◌∷◌, ◌++◌, Bool, true, false, length, take, drop, map, refl, sym, ap, ◌∙◌, subst, arith, inl, inr, Option, Ok, take_all}
+use Rattle.std.proofs.Common.{◌≡◌, ℕ, zero, suc, ◌+◌, ◌<◌, ◌≤◌, List, [], ◌∷◌, ◌++◌, Bool, true, false, length, take, drop, map, refl, sym, ap, ◌∙◌, subst, arith, inl, inr, Option, Ok, take_all}
 use Rattle.std.proofs.lemmas.List.{length-map, length-take-le}
 use Rattle.std.proofs.lemmas.Bool.{cases_lt}
 use Rattle.matchit.proofs.ConflictLemmas.{head-of, tail-of}

@@ -1,3 +1,4 @@
+pub mod AskedLemmas
 pub mod ExceedLemmas
 pub mod FieldLemmas
 pub mod FormLemmas

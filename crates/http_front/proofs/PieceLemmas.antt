@@ -1,6 +1,6 @@
 -- The pieces of a text between its spaces.
-use Rattle.std.proofs.Common.{◌≡◌, ℕ, suc, ◌<◌, List, [], ◌∷◌, ◌++◌, true, not, ◌&&◌, filter, length, get_or, refl, sym, ap, ◌∙◌, arith, append_assoc, ◌≢◌, Option, None, Some, MatchOption, Bor}
-use Rattle.std.specs.Prelude.{if◌then◌else◌, ◌==◌}
+use Rattle.std.proofs.Common.{◌≡◌, ℕ, suc, ◌<◌, List, [], ◌∷◌, ◌++◌, true, not, filter, length, get_or, refl, sym, ap, ◌∙◌, arith, append_assoc, ◌≢◌, Option, None, Some, MatchOption, Bor}
+use Rattle.std.specs.Prelude.{◌==◌}
 use Rattle.std.specs.List.{slice_split, onto_first}
 use Rattle.std.proofs.lemmas.Bool.Decides.{nat_tests}
 use Rattle.std.proofs.lemmas.List.Splits.{slice_split-cons_no}

@@ -1,5 +1,5 @@
 -- Steps of the table of paths, and of paths.
-use Rattle.std.proofs.Common.{◌≡◌, ◌⊎◌, inl, inr, ℕ, ◌+◌, ◌<◌, List, [], ◌∷◌, length, take, ap, ◌∙◌, arith, take_all, Bor, Option, None, Some, MatchOption, Result, Ok, Err}
+use Rattle.std.proofs.Common.{◌≡◌, inl, inr, ℕ, ◌<◌, List, [], length, take, ap, ◌∙◌, arith, take_all, Bor, Option, None, Some, MatchOption, Result, Ok, Err}
 use Rattle.std.specs.Prelude.{◌==◌}
 use Rattle.std.specs.List.{position_or_len, before_first, after_first}
 use Rattle.std.proofs.lemmas.List.{drop_all}

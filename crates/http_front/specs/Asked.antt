@@ -1,9 +1,10 @@
 -- What is asked of the wiki at each path, and what the response to a done reply is.
-use Rattle.std.specs.Prelude.{ℕ, List, codes, Option, Some, None, option_map, option_and_then}
+use Rattle.std.specs.Prelude.{ℕ, List, codes, Option, Some, None, option_map, option_and_then, if◌then◌else◌}
 use Rattle.wiki_talk.specs.Kinds.{kind_named}
 use Rattle.wiki_talk.specs.declared.requests.Request.{Request}
 use Rattle.wiki_talk.specs.declared.requests.Request.TheVariants as requests
 use Rattle.wire_json.specs.Requests.{request_of}
+use Rattle.wire_json.specs.Told.{gives_line}
 use Rattle.http_front.specs.declared.goals.Goal.{Goal}
 use Rattle.http_front.specs.declared.goals.Goal.TheVariants.{Index, NewWord, Line, Article, Session, Editor, EditorFile}
 use Rattle.http_front.specs.declared.goals.OnArticle.{OnArticle}
@@ -56,9 +57,9 @@ session_asked in_session.Refresh session body = Some (requests.Refresh session, 
 session_asked in_session.Commit session body = Some (requests.Commit session, answers.GoArticle)
 session_asked in_session.Drop session body = Some (requests.Drop session, answers.Go (codes "/"))
 
--- what is asked by one line of JSON
+-- what is asked by one line of JSON; nothing by one that gives a grammar whose own line would be too long
 unfoldable pub line_asked : List ℕ → Option (Request × Then)
-line_asked body = option_map (λ request. (request, answers.Line)) (request_of body)
+line_asked body = option_and_then (λ request. if gives_line request then Some (request, answers.Line) else None) (request_of body)
 
 -- what a body asks at a path, of the word and the session that the path names; at a path of the editor page nothing is asked
 abbrev pub asked : Goal → List ℕ → ℕ → List ℕ → Option (Request × Then)

@@ -1,5 +1,5 @@
 -- What the fields of a head tell: each is a name, and a value without the white space around it.
-use Rattle.std.specs.Prelude.{ℕ, ◌==◌, ◌||◌, ◌&&◌, not, Bool, true, false, List, [], ◌∷◌, ◌++◌, map, filter, codes, Option, Some, None, option_and_then, unwrap_or, if◌then◌else◌, nat_lt, nat_eq}
+use Rattle.std.specs.Prelude.{ℕ, ◌==◌, ◌||◌, ◌&&◌, not, Bool, false, List, [], ◌∷◌, ◌++◌, map, filter, codes, Option, Some, None, option_and_then, unwrap_or, if◌then◌else◌, nat_lt}
 use Rattle.std.specs.List.{count_by, list_all}
 use Rattle.std.specs.Char.{to_ascii_lowercase}
 use Rattle.std.specs.Str.{bytes_eq}

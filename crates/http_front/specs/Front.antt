@@ -1,12 +1,12 @@
 -- The request of a connection's bytes (RFC 9112, with one request a connection and no transfer coding).
-use Rattle.std.specs.Prelude.{◌≡◌, ◌==◌, ◌≤◌, ◌+◌, ◌<◌, ◌⊎◌, ◌||◌, ℕ, Bool, true, false, List, [], ◌∷◌, length, map, take, drop, if◌then◌else◌, nat_lt, Option, Some, None, option_map}
+use Rattle.std.specs.Prelude.{◌≡◌, ◌==◌, ◌≤◌, ◌+◌, ◌<◌, ◌⊎◌, ◌||◌, ℕ, Bool, true, false, List, [], ◌∷◌, length, map, take, drop, if◌then◌else◌, nat_lt, Option, Some, None, option_map, IsTrue}
 use Rattle.std.specs.Option.{option_map_or}
 use Rattle.std.specs.Str.{bytes_eq}
 use Rattle.httparse.specs.Grammar.{RequestHead, print_request, ReadsRequest, HasNoRequest, NeverHasRequest, MayBecomeRequest}
 use Rattle.httparse.specs.Spans.{name_and_value, RequestOverflows, RequestExceeds}
 use Rattle.editor_names.specs.Names.{file_named}
 use Rattle.wiki_talk.specs.declared.requests.Request.{Request}
-use Rattle.http_front.specs.declared.goals.Verb.{Verb}
+use Rattle.wire_json.specs.Told.{gives_line}
 use Rattle.http_front.specs.declared.goals.Goal.{Goal}
 use Rattle.http_front.specs.declared.goals.Goal.TheVariants.{Line, Article, Session, Editor, EditorFile}
 use Rattle.http_front.specs.declared.seen.Then.{Then}
@@ -169,3 +169,8 @@ seen_by (begun.Head head) bytes = seen_after head bytes
 -- what the bytes of a connection are: wait, a refusal, or a request with its response
 abbrev pub Sees : List ℕ → Seen → Type 0
 Sees bytes seen = (begun : Begun) × Begins bytes begun × (seen ≡ seen_by begun bytes)
+
+-- if what the bytes ask for is a grammar, its line isn't too long
+abbrev pub AsksInLine : Seen → Type 0
+AsksInLine (seen.Ask request answer) = IsTrue (gives_line request)
+AsksInLine other = Unit {0}

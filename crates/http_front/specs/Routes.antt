@@ -1,5 +1,5 @@
 -- The paths of the wiki, each with its one method.
-use Rattle.std.specs.Prelude.{ℕ, ◌==◌, List, [], ◌∷◌, codes, drop, fold, Option, Some, None, option_map, Result, Ok, Err}
+use Rattle.std.specs.Prelude.{ℕ, ◌==◌, List, [], ◌∷◌, codes, drop, fold, Option, option_map, Result, Ok, Err}
 use Rattle.std.specs.Borrow.{Bor}
 use Rattle.std.specs.List.{before_first}
 use Rattle.matchit.specs.Rows.{RowsOf}
@@ -12,9 +12,7 @@ use Rattle.http_front.specs.declared.goals.Verb.{Verb}
 use Rattle.http_front.specs.declared.goals.Verb.TheVariants.{Get, Post}
 use Rattle.http_front.specs.declared.goals.Goal.{Goal}
 use Rattle.http_front.specs.declared.goals.Goal.TheVariants.{Index, NewWord, Line, Article, Session, Editor, EditorFile}
-use Rattle.http_front.specs.declared.goals.OnArticle.{OnArticle}
 use Rattle.http_front.specs.declared.goals.OnArticle.TheVariants as on_article
-use Rattle.http_front.specs.declared.goals.InSession.{InSession}
 use Rattle.http_front.specs.declared.goals.InSession.TheVariants as in_session
 
 -- the paths, and what each is for

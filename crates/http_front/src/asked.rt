@@ -9,7 +9,7 @@ use crate::seen::Then;
 use std::alloc::Global;
 use wiki_base::{Memory, Text8};
 use wiki_talk::{Request, kind_named};
-use wire_json::read_request;
+use wire_json::{gives_line, read_request};
 
 // A request, and the response when it is done.
 pub(crate) type Asked = Option<(Request, Then)>;
@@ -38,9 +38,13 @@ pub(crate) fn asked(
 fn line_asked(alloc: Global, body: &[u8]) -> Result<Asked, Memory>
     ensures { IfOk result (λ found. found ≡ line_asked body.now) }
 {
-    match read_request(alloc, body)? {
-        Some(request) => Ok(Some((request, Then::Line))),
-        None => Ok(None),
+    let Some(request) = read_request(alloc, body)? else {
+        return Ok(None);
+    };
+    if gives_line(alloc, &request)? {
+        Ok(Some((request, Then::Line)))
+    } else {
+        Ok(None)
     }
 }
 

@@ -2,7 +2,7 @@
 ghost use Rattle.std.specs.Prelude.{◌≡◌, ◌≤◌, ◌<◌, ◌+◌, ◌++◌, List, ℕ, IfOk, All, length, map, IsUtf8};
 ghost use Rattle.httparse.specs.Spans.{IsHeaderWithin, header_bytes};
 ghost use Rattle.http_front.specs.Routes.{table, path_of};
-ghost use Rattle.http_front.specs.Front.{refused, half_begun, newlines, after_blank, word_in, session_in, own_in, begun_in, begun_for, begun_by, begun_at, begun_with, begun_of, head_part, Begins, seen_of, seen_with, seen_after, Sees, is_line};
+ghost use Rattle.http_front.specs.Front.{refused, half_begun, newlines, after_blank, word_in, session_in, own_in, begun_in, begun_for, begun_by, begun_at, begun_with, begun_of, head_part, Begins, seen_of, seen_with, seen_after, Sees, is_line, AsksInLine};
 ghost use Rattle.http_front.specs.Cuts.{IsCutAnywhere};
 ghost use Rattle.http_front.specs.Forms.{decoded};
 
@@ -42,6 +42,7 @@ impl Front {
     pub fn request_of(&self, bytes: &[u8]) -> Result<Seen, Memory>
         ensures sees { IfOk result (λ seen. Sees bytes.now seen) }
         ensures cut { IfOk result (λ seen. IsCutAnywhere bytes.now seen) }
+        ensures in_line { IfOk result (λ seen. AsksInLine seen) }
     {
         let seen = self.seen_in(bytes)?;
         Ok(seen)

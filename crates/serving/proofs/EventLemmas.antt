@@ -2,6 +2,7 @@
 use Rattle.std.proofs.Common.{◌≡◌, ◌⊎◌, ℕ, Bool, true, List, [], ◌∷◌, ◌++◌, map, Option, refl, sym, subst, ◌∙◌, append-nil, IsTrue, arith, ◌≤◌, length, take, inl, inr}
 use Rattle.std.proofs.lemmas.Grind.{flat_map-append}
 use Rattle.std.proofs.lemmas.List.{map-append}
+use Rattle.std.proofs.lemmas.List.Elements.{All-nil, All-cons, All-append}
 use Rattle.std.specs.List.{flat_map}
 use Rattle.std.specs.Bool.{OnTrue}
 use Rattle.std.specs.Prelude.{Result, Ok, Err, IfOk}
@@ -19,11 +20,12 @@ use Rattle.server.specs.Responses.{response_of}
 use Rattle.server.specs.Kept.{Kept, numbers}
 use Rattle.server.specs.Taking.{Takes}
 use Rattle.server.specs.Runs.{TakesAll}
-use Rattle.serving.specs.Handling.{Handling, waited, own_answer, replied, turn_in, exchange_in, journal_in, response_in}
+use Rattle.serving.specs.Handling.{Handling, waited, own_answer, replied, turn_in, exchange_in, journal_in, CameInLine, response_in}
 use Rattle.serving.specs.Journal.{journal_line}
 use Rattle.serving.specs.Delivering.{Delivers}
 use Rattle.serving.specs.Events.{Outside, RunsEvents, Handles, WasHandled, CutsJournal}
 use Rattle.serving.proofs.DeliverLemmas.{Delivers-none, Delivers-append}
+use Rattle.serving.proofs.InLineLemmas.{came_in_line}
 
 TakesAll-append : (first : List Kept) (events more : List Event) (turns turns_more : List Turn) (middle last : List Kept) → TakesAll first events turns middle
     → TakesAll middle more turns_more last → TakesAll first (events ++ more) (turns ++ turns_more) last
@@ -44,6 +46,7 @@ module _ {S : Type 0} (step : S → Request → Reply → S → Type 0) where
     handlings = [];
     turns = refl;
     steps = refl;
+    in_lines = All-nil CameInLine;
     journal = Appends-nil outside.journal;
     responses = Delivers-none outside.sent outside.sent outside.send_faults outside.send_faults refl (omega arith);
   }
@@ -59,6 +62,7 @@ module _ {S : Type 0} (step : S → Request → Reply → S → Type 0) where
     handlings = handling ∷ [];
     turns = (kept_after, comes, handles.takes, refl);
     steps = rw (append-nil (exchange_in handling)) handles.steps;
+    in_lines = All-cons CameInLine handling [] (came_in_line kept event handling kept_after handles.takes) (All-nil CameInLine);
     journal = rw (append-nil (journal_in handling)) written;
     responses = rw (append-nil (response_in handling)) delivers;
   }
@@ -75,6 +79,7 @@ module _ {S : Type 0} (step : S → Request → Reply → S → Type 0) where
         (TakesAll-append kept events more (map turn_in one.handlings) (map turn_in two.handlings) kept_middle kept_last one.turns two.turns);
     steps = rw (flat_map-append exchange_in one.handlings two.handlings)
         (Turns-append first (flat_map exchange_in one.handlings) (flat_map exchange_in two.handlings) middle last one.steps two.steps);
+    in_lines = All-append CameInLine one.handlings two.handlings one.in_lines two.in_lines;
     journal = rw (flat_map-append journal_in one.handlings two.handlings)
         (Appends-trans outside.journal outside_middle.journal outside_last.journal (flat_map journal_in one.handlings) (flat_map journal_in two.handlings)
         one.journal two.journal);

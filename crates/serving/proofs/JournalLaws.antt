@@ -1,7 +1,8 @@
 -- What the journal's lines ask, and how long they are.
-use Rattle.std.proofs.Common.{◌≡◌, ℕ, ◌≤◌, Bool, true, false, List, [], ◌∷◌, ◌++◌, length, take, map, All, flat_map, Option, Some, None, if◌then◌else◌, refl, sym, ap, subst, ◌∙◌, arith, append-nil}
+use Rattle.std.proofs.Common.{◌≡◌, ℕ, ◌≤◌, Bool, true, false, List, [], ◌∷◌, ◌++◌, length, take, map, All, flat_map, Option, None, if◌then◌else◌, refl, sym, ap, subst, ◌∙◌, arith, append-nil}
 use Rattle.std.proofs.lemmas.Grind.{flat_map-append}
 use Rattle.std.proofs.lemmas.List.Elements.{All-head}
+use Rattle.wiki_io.specs.declared.limits.TheConstants.{MAX_LINE}
 use Rattle.wiki_io.specs.Lines.{InputLine, text, input_lines}
 use Rattle.wiki_talk.specs.declared.requests.Request.{Request}
 use Rattle.wiki_talk.specs.declared.requests.LineRequest.{LineRequest}
@@ -9,7 +10,8 @@ use Rattle.wiki_talk.specs.declared.requests.Request.TheVariants as requests
 use Rattle.wiki_talk.specs.declared.replies.Reply.{Reply}
 use Rattle.wiki_talk.specs.declared.replies.Reply.TheVariants as replies
 use Rattle.wire_json.specs.Requests.{line_request_of, request_line}
-use Rattle.wire_json.specs.Told.{asked_for, request_text, IsToldChange, most_line, EndsLine, ended, asked_by_front}
+use Rattle.wire_json.specs.Told.{asked_for, request_text, IsToldChange, most_line, most_for, EndsLine, ended, asked_by_front}
+use Rattle.wire_json.proofs.LengthLemmas.{least_most}
 use Rattle.wire_json.proofs.RequestLaws.{length-change_line, input_lines-changes, asked-changes, asked-next, EndsLine-requests}
 use Rattle.wire_json.proofs.CutLaws.{asked-cut-changes}
 use Rattle.serving.specs.Journal.{is_change, line_written, change_line, shown_line, journal_line}
@@ -38,6 +40,7 @@ shown_line-with_shown requests.Words shown = refl
 shown_line-with_shown (requests.Parse sent) shown = refl
 shown_line-with_shown (requests.Reword word forms) shown = refl
 shown_line-with_shown (requests.Unword word) shown = refl
+shown_line-with_shown (requests.Grammar sent) shown = refl
 shown_line-with_shown (requests.Add article place sent) shown = written (requests.Add article place shown)
 shown_line-with_shown (requests.Edit article place sent) shown = written (requests.Edit article place shown)
 shown_line-with_shown (requests.Remove article place) shown = refl
@@ -76,16 +79,10 @@ journal_line-changes r (replies.Menu menu whole shown) = change_line-itself r
 journal_line-changes r (replies.Commit article status shown) = written (requests.Add article None shown)
 journal_line-changes r replies.Refresh = change_line-itself r
 journal_line-changes r replies.Drop = change_line-itself r
+journal_line-changes r replies.Grammar = change_line-itself r
 journal_line-changes r (replies.Undo article) = change_line-itself r
 journal_line-changes r (replies.Redo article) = change_line-itself r
 journal_line-changes r (replies.Refused refusal) = refl
-
-length-one : (rs : List Request) → length rs ≤ 1 → All IsToldChange rs → length (flat_map request_line rs) ≤ most_line
-length-one [] few told = omega arith
-length-one (r ∷ []) few told =
-    let one = All-head IsToldChange r [] told in
-    omega (arith, length-change_line r one.0 one.1, ap length (append-nil (request_line r)))
-length-one (r ∷ s ∷ rs) few told = absurd (omega arith)
 
 few-itself : (r : Request) (b : Bool) → length (if b then r ∷ [] else []) ≤ 1
 few-itself r true = omega arith
@@ -98,6 +95,7 @@ few-shown requests.Words shown = omega arith
 few-shown (requests.Parse sent) shown = omega arith
 few-shown (requests.Reword word forms) shown = omega arith
 few-shown (requests.Unword word) shown = omega arith
+few-shown (requests.Grammar sent) shown = omega arith
 few-shown (requests.Add article place sent) shown = omega arith
 few-shown (requests.Edit article place sent) shown = omega arith
 few-shown (requests.Remove article place) shown = omega arith
@@ -134,14 +132,84 @@ few-changes r (replies.Menu menu whole shown) = few-itself r (is_change r)
 few-changes r (replies.Commit article status shown) = omega arith
 few-changes r replies.Refresh = few-itself r (is_change r)
 few-changes r replies.Drop = few-itself r (is_change r)
+few-changes r replies.Grammar = few-itself r (is_change r)
 few-changes r (replies.Undo article) = few-itself r (is_change r)
 few-changes r (replies.Redo article) = few-itself r (is_change r)
 few-changes r (replies.Refused refusal) = omega arith
 
--- a line of the journal has at most `most_line` bytes, its newline among them
-pub length-journal_line : (request : Request) (reply : Reply) → All IsToldChange (changes_told request reply) → length (journal_line request reply) ≤ most_line
-length-journal_line request reply told =
-    omega (arith, ap length (journal_line-changes request reply), length-one (changes_told request reply) (few-changes request reply) told)
+-- ---- how long a line of the journal is
+
+IsWithin : ℕ → List Request → Type 0
+IsWithin most requests = length (flat_map request_line requests) ≤ most
+
+within_none : (most : ℕ) → IsWithin most []
+unfolding IsWithin
+within_none most = omega arith
+
+within_one : (r : Request) (most : ℕ) → most_for r ≤ most → All IsToldChange (r ∷ []) → IsWithin most (r ∷ [])
+unfolding IsWithin
+within_one r most fits told =
+    let one = All-head IsToldChange r [] told in
+    omega (arith, fits, length-change_line r one.0 one.1, ap length (append-nil (request_line r)))
+
+within_itself : (r : Request) (b : Bool) → All IsToldChange (if b then r ∷ [] else []) → IsWithin (most_for r) (if b then r ∷ [] else [])
+within_itself r true told = within_one r (most_for r) (omega arith) told
+within_itself r false told = within_none (most_for r)
+
+within_shown : (r : Request) (shown : List ℕ) → All IsToldChange (with_shown r shown) → IsWithin (most_for r) (with_shown r shown)
+within_shown (requests.Word kind forms) shown told = within_none most_line
+within_shown (requests.Find word) shown told = within_none most_line
+within_shown requests.Words shown told = within_none most_line
+within_shown (requests.Parse sent) shown told = within_none most_line
+within_shown (requests.Reword word forms) shown told = within_none most_line
+within_shown (requests.Unword word) shown told = within_none most_line
+within_shown (requests.Grammar sent) shown told = within_none MAX_LINE
+within_shown (requests.Add article place sent) shown told = within_one (requests.Add article place shown) most_line (omega arith) told
+within_shown (requests.Edit article place sent) shown told = within_one (requests.Edit article place shown) most_line (omega arith) told
+within_shown (requests.Remove article place) shown told = within_none most_line
+within_shown (requests.Retract article place) shown told = within_none most_line
+within_shown (requests.Reassert article place) shown told = within_none most_line
+within_shown (requests.Read article) shown told = within_none most_line
+within_shown (requests.Axioms article place) shown told = within_none most_line
+within_shown (requests.Begin article) shown told = within_none most_line
+within_shown (requests.Put session sent) shown told = within_none most_line
+within_shown (requests.Back session) shown told = within_none most_line
+within_shown (requests.Menu session) shown told = within_none most_line
+within_shown (requests.Commit session) shown told = within_none most_line
+within_shown (requests.Refresh session) shown told = within_none most_line
+within_shown (requests.Drop session) shown told = within_none most_line
+
+within_told : (request : Request) (reply : Reply) → All IsToldChange (changes_told request reply) → IsWithin (most_for request) (changes_told request reply)
+within_told r replies.Word told = within_itself r (is_change r) told
+within_told r (replies.Find word) told = within_itself r (is_change r) told
+within_told r (replies.Words words) told = within_itself r (is_change r) told
+within_told r (replies.Parse code) told = within_itself r (is_change r) told
+within_told r replies.Reword told = within_itself r (is_change r) told
+within_told r replies.Unword told = within_itself r (is_change r) told
+within_told r (replies.Add status shown) told = within_shown r shown told
+within_told r (replies.Edit status shown) told = within_shown r shown told
+within_told r replies.Remove told = within_itself r (is_change r) told
+within_told r (replies.Retract status) told = within_itself r (is_change r) told
+within_told r (replies.Reassert status) told = within_itself r (is_change r) told
+within_told r (replies.Read form revision sentences) told = within_itself r (is_change r) told
+within_told r (replies.Axioms meant) told = within_itself r (is_change r) told
+within_told r (replies.Begin session) told = within_itself r (is_change r) told
+within_told r (replies.Put tokens) told = within_itself r (is_change r) told
+within_told r (replies.Back tokens) told = within_itself r (is_change r) told
+within_told r (replies.Menu menu whole shown) told = within_itself r (is_change r) told
+within_told r (replies.Commit article status shown) told = within_one (requests.Add article None shown) (most_for r) (least_most r) told
+within_told r replies.Refresh told = within_itself r (is_change r) told
+within_told r replies.Drop told = within_itself r (is_change r) told
+within_told r replies.Grammar told = within_itself r (is_change r) told
+within_told r (replies.Undo article) told = within_itself r (is_change r) told
+within_told r (replies.Redo article) told = within_itself r (is_change r) told
+within_told r (replies.Refused refusal) told = within_none (most_for r)
+
+-- a line of the journal has at most `most_line` bytes, its newline among them, and that of a grammar as many as a line may have
+pub length-journal_line : (request : Request) (reply : Reply) → All IsToldChange (changes_told request reply)
+    → length (journal_line request reply) ≤ most_for request
+unfolding IsWithin
+length-journal_line request reply told = omega (arith, ap length (journal_line-changes request reply), within_told request reply told)
 
 -- ---- the journal of a run
 

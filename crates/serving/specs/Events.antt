@@ -1,5 +1,5 @@
 -- Runs of events on connections, at a server and a machine that answers requests, whatever the machine's states are.
-use Rattle.std.specs.Prelude.{◌≡◌, ◌⊎◌, ℕ, ◌≤◌, List, [], ◌∷◌, ◌++◌, length, take, map, Option}
+use Rattle.std.specs.Prelude.{◌≡◌, ◌⊎◌, ℕ, ◌≤◌, List, [], ◌∷◌, ◌++◌, length, take, map, All, Option}
 use Rattle.std.specs.List.{flat_map}
 use Rattle.std.specs.Io.KnownBytes.{Appends}
 use Rattle.wiki_io.specs.declared.links.Event.{Event}
@@ -12,7 +12,7 @@ use Rattle.server.specs.Taking.{Takes}
 use Rattle.server.specs.Runs.{TakesAll}
 use Rattle.serving.specs.declared.serving.Served.{Served}
 use Rattle.serving.specs.declared.serving.Served.TheVariants as served
-use Rattle.serving.specs.Handling.{Handling, turn_in, exchange_in, journal_in, response_in}
+use Rattle.serving.specs.Handling.{Handling, turn_in, exchange_in, journal_in, CameInLine, response_in}
 use Rattle.serving.specs.Delivering.{Delivers}
 
 -- what the journal has taken and what the link has taken to be sent, where they tell it, and how often a send failed
@@ -22,13 +22,14 @@ pub record Outside : Type 0 where
   pub send_faults : ℕ
 
 -- Events one after another: the server takes each in turn, the machine is asked what they ask, in order and in one run,
--- the accepted changes are written to the journal, and each response is sent on its connection. A refusal of bytes and a file
--- of the editor page are no replies: the server answers them by itself, and the machine has no step for them.
+-- the accepted changes are written to the journal, where each grammar has its line, and each response is sent on its connection. A
+-- refusal of bytes and a file of the editor page are no replies: the server answers them by itself, and the machine has no step for them.
 pub record RunsEvents {S : Type 0} (step : S → Request → Reply → S → Type 0) (first : S) (kept : List Kept) (outside : Outside) (events : List Event) (last : S)
     (kept_after : List Kept) (outside_after : Outside) : Type 0 where
   pub handlings : List Handling
   pub turns : TakesAll kept events (map turn_in handlings) kept_after
   pub steps : Turns step first (flat_map exchange_in handlings) last
+  pub in_lines : All CameInLine handlings
   pub journal : Appends outside.journal outside_after.journal (flat_map journal_in handlings)
   pub responses : Delivers (flat_map response_in handlings) outside.sent outside.send_faults outside_after.sent outside_after.send_faults
 

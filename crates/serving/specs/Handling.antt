@@ -1,8 +1,9 @@
 -- What one event on a connection comes to, at a server and a machine that answers requests.
-use Rattle.std.specs.Prelude.{ℕ, List, [], ◌∷◌}
+use Rattle.std.specs.Prelude.{ℕ, List, [], ◌∷◌, IsTrue}
 use Rattle.wiki_talk.specs.declared.requests.Request.{Request}
 use Rattle.wiki_talk.specs.declared.replies.Reply.{Reply}
 use Rattle.wiki_talk.specs.Turns.{Exchange, answered}
+use Rattle.wire_json.specs.Told.{gives_line}
 use Rattle.http_front.specs.declared.seen.Then.{Then}
 use Rattle.server.specs.declared.turns.Turn.{Turn}
 use Rattle.server.specs.declared.turns.Turn.TheVariants as turns
@@ -33,6 +34,11 @@ abbrev pub journal_in : Handling → List ℕ
 journal_in waited = []
 journal_in (own_answer n response) = []
 journal_in (replied n request then reply) = journal_line request reply
+
+-- if what came over the connection is a grammar, its line isn't too long
+abbrev pub CameInLine : Handling → Type 0
+CameInLine (replied n request then reply) = IsTrue (gives_line request)
+CameInLine handling = Unit {0}
 
 -- the response, with the number of its connection
 abbrev pub response_in : Handling → List (ℕ × List ℕ)

@@ -6,11 +6,12 @@ use Rattle.wiki_talk.specs.declared.replies.Reply.{Reply}
 use Rattle.wiki_talk.specs.declared.replies.Reply.TheVariants as replies
 use Rattle.wire_json.specs.Requests.{request_line}
 
--- the request changes words or sentences; what is done in a session is gone with it
+-- the request changes the grammar, words or sentences; what is done in a session is gone with it
 unfoldable pub is_change : Request → Bool
 is_change (requests.Word kind forms) = true
 is_change (requests.Reword word forms) = true
 is_change (requests.Unword word) = true
+is_change (requests.Grammar text) = true
 is_change (requests.Add article place text) = true
 is_change (requests.Edit article place text) = true
 is_change (requests.Remove article place) = true

@@ -85,7 +85,7 @@ fn line_written(alloc: Global, request: &Request) -> Result<Text8, Memory>
     request_line(alloc, request)
 }
 
-// The request changes words or sentences.
+// The request changes the grammar, words or sentences.
 #[tactic(auto, unfolding(crate::specs::Journal::is_change))]
 fn is_change(request: &Request) -> bool
     ensures { result ≡ is_change request.now }
@@ -94,6 +94,7 @@ fn is_change(request: &Request) -> bool
         Request::Word { .. } => true,
         Request::Reword { .. } => true,
         Request::Unword { .. } => true,
+        Request::Grammar { .. } => true,
         Request::Add { .. } => true,
         Request::Edit { .. } => true,
         Request::Remove { .. } => true,

@@ -20,3 +20,17 @@ pub struct Session {
     pub revision: Rev,
     pub editor: Editor,
 }
+
+impl Session {
+    // The session with another editor.
+    pub(crate) fn with_editor(&self, editor: Editor) -> Session
+        ensures { result ≡ record self.now { editor = editor } }
+    {
+        Session {
+            number: self.number,
+            article: self.article,
+            revision: self.revision,
+            editor,
+        }
+    }
+}

@@ -215,12 +215,25 @@ impl Sessions {
         let mut sessions = Vec::new(*self.sessions.allocator());
         for session in &self.sessions {
             let (editor, _) = session.editor.reread(grammar, lexicon)?;
-            sessions.push(Session {
-                number: session.number,
-                article: session.article,
-                revision: session.revision,
-                editor,
-            })?;
+            sessions.push(session.with_editor(editor))?;
+        }
+        Ok(Sessions { sessions })
+    }
+
+    /// Each session with its tokens rebased to a grammar, which may be another than the one that the sessions keep, and the
+    /// lexicon.
+    pub fn regrounded(
+        &self,
+        grammar: &CheckedGrammar,
+        lexicon: &Lexicon,
+    ) -> Result<Sessions, Memory>
+        ensures rebased { IfOk result (λ rebased. AreRebased grammar.now lexicon.now (all_plain self.now) (all_plain rebased)) }
+        ensures kept { IfOk result (AreKept grammar.now lexicon.now) }
+    {
+        let mut sessions = Vec::new(*self.sessions.allocator());
+        for session in &self.sessions {
+            let (editor, _) = session.editor.rebase(grammar, lexicon)?;
+            sessions.push(session.with_editor(editor))?;
         }
         Ok(Sessions { sessions })
     }

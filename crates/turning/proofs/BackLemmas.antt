@@ -79,6 +79,7 @@ no_words : (state : State) (request : Request) (word : WordId) → article_chang
 no_words state (requests.Word kind forms) word is = absurd (none-some word is)
 no_words state (requests.Reword form forms) word is = absurd (none-some word is)
 no_words state (requests.Unword form) word is = absurd (none-some word is)
+no_words state (requests.Grammar text) word is = absurd (none-some word is)
 no_words state request word is = refl
 
 -- a done change of an article is noted

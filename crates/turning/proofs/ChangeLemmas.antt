@@ -96,6 +96,7 @@ module _ (old new : State) (reply : Reply) (done : is_refused reply ≡ false) w
   others_keep (requests.Word kind forms) no_words none step = absurd (false≢true (sym no_words))
   others_keep (requests.Reword form forms) no_words none step = absurd (false≢true (sym no_words))
   others_keep (requests.Unword form) no_words none step = absurd (false≢true (sym no_words))
+  others_keep (requests.Grammar text) no_words none step = absurd (false≢true (sym no_words))
   others_keep (requests.Find word) no_words none step = (does_pages (requests.Find word) step.pages).after
   others_keep requests.Words no_words none step = (does_pages requests.Words step.pages).after
   others_keep (requests.Parse text) no_words none step = (does_pages (requests.Parse text) step.pages).after

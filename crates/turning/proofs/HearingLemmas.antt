@@ -19,7 +19,7 @@ use Rattle.wiki_core.specs.Stepping.{KeptStep}
 use Rattle.wiki_core.specs.Apart as apart
 use Rattle.wiki_core.proofs.SeenLemmas.{Own, own, own_of, RiseTo}
 use Rattle.wiki_core.proofs.HearLemmas.{Seen, Follows, seen_is, follows_one, follows_append}
-use Rattle.wiki_core.proofs.RunLemmas.{seen, IsApt, begin_shows}
+use Rattle.wiki_core.proofs.RunLemmas.{seen, shared_is, IsApt, begin_shows}
 use Rattle.wiki_core.proofs.ApartLemmas.{open_step, before_step, none_seen, none_follows, opens_by, tokens_seen}
 use Rattle.turning.specs.Turning.{Recalling, without_history, KeptTurn}
 use Rattle.turning.specs.Laws.{IsRun, exchange_of, exchanges_of, TokensAreOwn}
@@ -79,72 +79,73 @@ hear_run first of_lines more last run =
 -- where sessions stay, each sees what it saw
 seen_kept : (old new : State) (number : ℕ) → KeepsSessions old new → seen new number ≡ seen old number
 seen_kept old new number keeps =
-    seen_is (seen new number) (seen old number) keeps.words (ap (λ (sessions : List PlainSession). own_of sessions number) keeps.sessions)
+    seen_is (seen new number) (seen old number) (shared_is old.pages new.pages keeps.grammar keeps.words)
+    (ap (λ (sessions : List PlainSession). own_of sessions number) keeps.sessions)
 
 pub apt_kept : (old new : State) → KeepsSessions old new → IsApt old → IsApt new
 apt_kept old new keeps apt =
     subst (λ (n : ℕ). RiseTo 0 n new.sessions) (sym keeps.last) (subst (RiseTo 0 old.last) (sym keeps.sessions) apt)
 
 -- all turns while the session is open
-run_open : (g : GrammarParts) (number : ℕ) (exchanges : List (Exchange Request Reply)) (old last : State) → old.pages.grammar ≡ g → IsApt old
+run_open : (number : ℕ) (exchanges : List (Exchange Request Reply)) (old last : State) → IsApt old
     → number ≤ old.last → HearTurns old exchanges last
-    → Follows g (seen old number) (flat_map (apart.heard_open number) exchanges) (seen last number)
-run_open g number [] old last over apt below turns = ap (λ (s : State). seen s number) turns
-run_open g number (no_request ∷ exchanges) old last over apt below (next, keeps, rest) =
-    subst (λ (s : Seen). Follows g s (flat_map (apart.heard_open number) exchanges) (seen last number)) (seen_kept old next number keeps)
-    (run_open g number exchanges next last (keeps.grammar ∙ over) (apt_kept old next keeps apt)
+    → Follows (seen old number) (flat_map (apart.heard_open number) exchanges) (seen last number)
+run_open number [] old last apt below turns = ap (λ (s : State). seen s number) turns
+run_open number (no_request ∷ exchanges) old last apt below (next, keeps, rest) =
+    subst (λ (s : Seen). Follows s (flat_map (apart.heard_open number) exchanges) (seen last number)) (seen_kept old next number keeps)
+    (run_open number exchanges next last (apt_kept old next keeps apt)
     (subst (λ (n : ℕ). number ≤ n) (sym keeps.last) below) rest)
-run_open g number (answered request reply ∷ exchanges) old last over apt below (next, step, rest) =
-    let shows = open_step g old next number over apt below request reply step in
+run_open number (answered request reply ∷ exchanges) old last apt below (next, step, rest) =
+    let shows = open_step old next number apt below request reply step in
     let later = shows.later in
-    follows_append g (seen old number) (apart.heard_open number (answered request reply)) (seen next number) (flat_map (apart.heard_open number) exchanges)
+    follows_append (seen old number) (apart.heard_open number (answered request reply)) (seen next number) (flat_map (apart.heard_open number) exchanges)
     (seen last number) shows.follows
-    (run_open g number exchanges next last shows.grammar shows.apt (omega (arith, below, later)) rest)
+    (run_open number exchanges next last shows.apt (omega (arith, below, later)) rest)
 
 -- all turns from before the session is open
-run_before : (g : GrammarParts) (number : ℕ) (exchanges : List (Exchange Request Reply)) (old last : State) → old.pages.grammar ≡ g → IsApt old
+run_before : (number : ℕ) (exchanges : List (Exchange Request Reply)) (old last : State) → IsApt old
     → session_numbered old number ≡ None
-    → HearTurns old exchanges last → Follows g (seen old number) (apart.heard_by number exchanges) (seen last number)
-run_before g number [] old last over apt none turns = ap (λ (s : State). seen s number) turns
-run_before g number (no_request ∷ exchanges) old last over apt none (next, keeps, rest) =
-    subst (λ (s : Seen). Follows g s (apart.heard_by number exchanges) (seen last number)) (seen_kept old next number keeps)
-    (run_before g number exchanges next last (keeps.grammar ∙ over) (apt_kept old next keeps apt)
+    → HearTurns old exchanges last → Follows (seen old number) (apart.heard_by number exchanges) (seen last number)
+run_before number [] old last apt none turns = ap (λ (s : State). seen s number) turns
+run_before number (no_request ∷ exchanges) old last apt none (next, keeps, rest) =
+    subst (λ (s : Seen). Follows s (apart.heard_by number exchanges) (seen last number)) (seen_kept old next number keeps)
+    (run_before number exchanges next last (apt_kept old next keeps apt)
     (none_seen (session_numbered next number)
     (ap (λ (s : Seen). s.own) (seen_kept old next number keeps) ∙ ap (option_map own) none)) rest)
-run_before g number (answered request reply ∷ exchanges) old last over apt none (next, step, rest) =
-    by_case (apart.opened_by number (answered request reply)) refl (run_before g number exchanges next last)
+run_before number (answered request reply ∷ exchanges) old last apt none (next, step, rest) =
+    by_case (apart.opened_by number (answered request reply)) refl (run_before number exchanges next last)
   where
     by_case : (o : Option (List ℕ)) → apart.opened_by number (answered request reply) ≡ o
-        → (next.pages.grammar ≡ g → IsApt next → session_numbered next number ≡ None → HearTurns next exchanges last
-        → Follows g (seen next number) (apart.heard_by number exchanges) (seen last number))
-        → Follows g (seen old number)
+        → (IsApt next → session_numbered next number ≡ None → HearTurns next exchanges last
+        → Follows (seen next number) (apart.heard_by number exchanges) (seen last number))
+        → Follows (seen old number)
         (option_map_or (λ form. apart.opened form ∷ flat_map (apart.heard_open number) exchanges) o
         (apart.heard_of_words (answered request reply) ++ apart.heard_by number exchanges)) (seen last number)
     by_case None is going_on =
-        let shows = before_step g old next number over apt none request reply is step in
+        let shows = before_step old next number apt none request reply is step in
         let still = none_seen (session_numbered next number)
-        (none_follows g (seen old number) (seen next number) request reply shows.follows (ap (option_map own) none)) in
-        follows_append g (seen old number) (apart.heard_of_words (answered request reply)) (seen next number) (apart.heard_by number exchanges)
+        (none_follows (seen old number) (seen next number) request reply shows.follows (ap (option_map own) none)) in
+        follows_append (seen old number) (apart.heard_of_words (answered request reply)) (seen next number) (apart.heard_by number exchanges)
         (seen last number) shows.follows
-        (going_on shows.grammar shows.apt still rest)
+        (going_on shows.apt still rest)
     by_case (Some form) is going_on =
         let opens = opens_by number request reply form is in
         let step_on : StepsSession old (requests.Begin form) (replies.Begin number) next =
         subst (λ (r : Reply). Step old (requests.Begin form) r next) opens.told (subst (λ (q : Request). Step old q reply next) opens.asked step) in
-        let shows = begin_shows g old next number over apt form none step_on in
-        follows_append g (seen old number) (apart.opened form ∷ []) (seen next number) (flat_map (apart.heard_open number) exchanges) (seen last number)
+        let shows = begin_shows old next number apt form none step_on in
+        follows_append (seen old number) (apart.opened form ∷ []) (seen next number) (flat_map (apart.heard_open number) exchanges) (seen last number)
         shows.0.follows
-        (run_open g number exchanges next last shows.0.grammar shows.0.apt shows.1 rest)
+        (run_open number exchanges next last shows.0.apt shows.1 rest)
 
 -- a session's tokens are a function of the grammar and of what the session heard
 pub tokens_own_recalling : (g : GrammarParts) → TokensAreOwn g
 tokens_own_recalling g budget its_budget of_lines its_lines more its_more last its_last number its_number run its_run same =
     let heard : List apart.Heard = apart.heard_by number (exchanges_of of_lines more) in
-    let follows = run_before g number (exchanges_of of_lines more) (first_state g budget) last.state refl (omega arith) refl
+    let follows = run_before number (exchanges_of of_lines more) (first_state g budget) last.state (omega arith) refl
     (hear_run (without_history (first_holding g budget)) of_lines more last run) in
-    let its_follows = run_before g its_number (exchanges_of its_lines its_more) (first_state g its_budget) its_last.state refl (omega arith) refl
+    let its_follows = run_before its_number (exchanges_of its_lines its_more) (first_state g its_budget) its_last.state (omega arith) refl
     (hear_run (without_history (first_holding g its_budget)) its_lines its_more its_last its_run) in
-    let seen_same = follows_one g (seen (first_state g budget) number) heard (seen last.state number) (seen its_last.state its_number) follows
-    (subst (λ (hs : List apart.Heard). Follows g (seen (first_state g budget) number) hs (seen its_last.state its_number)) (sym same) its_follows) in
+    let seen_same = follows_one (seen (first_state g budget) number) heard (seen last.state number) (seen its_last.state its_number) follows
+    (subst (λ (hs : List apart.Heard). Follows (seen (first_state g budget) number) hs (seen its_last.state its_number)) (sym same) its_follows) in
     tokens_seen last.state number ∙ ap (λ (s : Seen). option_map (λ (o : Own). o.tokens) s.own) (sym seen_same)
     ∙ sym (tokens_seen its_last.state its_number)

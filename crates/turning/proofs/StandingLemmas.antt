@@ -1,6 +1,7 @@
 -- What stands after a run of a wiki with a history stands after what its lines asked and the changes of its requests.
-use Rattle.std.proofs.Common.{◌≡◌, ℕ, ◌++◌, ◌||◌, Bool, true, false, List, [], ◌∷◌, map, inl, inr, refl, sym, ap, subst, ◌∙◌}
+use Rattle.std.proofs.Common.{◌≡◌, ℕ, ◌++◌, ◌||◌, Bool, true, false, List, [], ◌∷◌, map, All, inl, inr, refl, sym, ap, subst, ◌∙◌}
 use Rattle.std.specs.List.{list_any}
+use Rattle.std.proofs.lemmas.List.Elements.{All-head, All-tail}
 use Rattle.codeco_terms.specs.GrammarParts.{GrammarParts}
 use Rattle.codeco_checked.specs.Sound.{IsSound}
 use Rattle.wiki_talk.specs.declared.replies.Reply.{Reply}
@@ -14,14 +15,15 @@ use Rattle.wiki_store.specs.Step.{asks_store}
 use Rattle.wiki_core.specs.State.{State}
 use Rattle.wiki_core.specs.Holding.{Holding, first_holding}
 use Rattle.wiki_core.specs.Stepping.{KeptStep}
-use Rattle.wiki_core.specs.Journaled.{changes_of, tells_spent, is_spent_in, SpendsNone, NoneIsRaised, StandAlike}
+use Rattle.wiki_core.specs.Journaled as core
+use Rattle.wiki_core.specs.Journaled.{changes_of, tells_spent, is_spent_in, SpendsNone, GivesUnraised, NoneIsRaised, AreUtf8, StandAlike}
 use Rattle.wiki_core.proofs.OneStepLemmas.{at_budget}
 use Rattle.wiki_core.proofs.WholeStepLemmas.{state_at}
 use Rattle.wiki_core.proofs.AgainLemmas.{IsMade, reply_again, spent_again, step_made}
 use Rattle.wiki_core.proofs.StandsLemmas.{IsReady, stays_ready, neither, made_again}
 use Rattle.turning.specs.Turning.{Recalling, without_history, KeptTurn}
 use Rattle.turning.specs.Laws.{exchange_of, asked_of, StandsAgain}
-use Rattle.turning.proofs.ReadyLemmas.{lines_ready}
+use Rattle.turning.proofs.ReadyLemmas.{lines_ready, asked_parts}
 use Rattle.turning.proofs.TwinLemmas.{AreTwins, spends, turn_alike}
 
 -- ---- what is asked
@@ -63,23 +65,24 @@ asks_again (request ∷ asked) more first last budget other its_last twins (repl
 
 -- the changes of a run's requests, asked over the same words and sentences
 made_run : (more : List (Exchange Request Reply)) (first last : Holding) (other its_last : Recalling) → IsReady first.state → Turns KeptStep first more last
-    → SpendsNone more → StandAlike first.state.pages other.wiki.state.pages → Asks other (map lines.Step (changes_of more)) its_last
+    → All GivesUnraised (core.asked_of more) → SpendsNone more → StandAlike first.state.pages other.wiki.state.pages
+    → Asks other (map lines.Step (changes_of more)) its_last
     → StandAlike last.state.pages its_last.wiki.state.pages
-made_run [] first last other its_last ready turns kept same asks =
+made_run [] first last other its_last ready turns unraised kept same asks =
     subst (λ (w : Holding). StandAlike w.state.pages its_last.wiki.state.pages) (sym turns)
     (subst (λ (r : Recalling). StandAlike first.state.pages r.wiki.state.pages) (sym asks) same)
-made_run (no_request ∷ more) first last other its_last ready (next, is, turns) kept same asks =
-    made_run more next last other its_last (subst (λ (w : Holding). IsReady w.state) (sym is) ready) turns kept
+made_run (no_request ∷ more) first last other its_last ready (next, is, turns) unraised kept same asks =
+    made_run more next last other its_last (subst (λ (w : Holding). IsReady w.state) (sym is) ready) turns unraised kept
     (subst (λ (w : Holding). StandAlike w.state.pages other.wiki.state.pages) (sym is) same) asks
-made_run (answered request reply ∷ more) first last other its_last ready (next, step, turns) kept same asks =
+made_run (answered request reply ∷ more) first last other its_last ready (next, step, turns) unraised kept same asks =
     by (step_made first.state request reply next.state ready.pages ready.short step.step)
-    (λ it alike asked. made_run more next last it its_last later turns both.1 alike asked)
+    (λ it alike asked. made_run more next last it its_last later turns (All-tail GivesUnraised request (core.asked_of more) unraised) both.1 alike asked)
   where
     both : (tells_spent reply ≡ false) × (list_any is_spent_in more ≡ false)
     both = neither (tells_spent reply) (list_any is_spent_in more) kept
 
     later : IsReady next.state
-    later = stays_ready first.state next.state reply ready request step.held.utf8 step.step
+    later = stays_ready first.state next.state reply ready request step.held.utf8 (All-head GivesUnraised request (core.asked_of more) unraised) step.step
 
     change_made : (change : Request) → store.Step first.state.pages change (reply_again reply) next.state.pages → asks_store change ≡ true
         → ((it : Recalling) → StandAlike next.state.pages it.wiki.state.pages → Asks it (map lines.Step (changes_of more)) its_last
@@ -104,8 +107,8 @@ made_run (answered request reply ∷ more) first last other its_last ready (next
         (subst (λ (changes : List Request). Asks other (map lines.Step (changes ++ changes_of more)) its_last) only_one asks)
 
 -- What stands is what is read.
-pub stands_again_recalling : (g : GrammarParts) → IsSound g → NoneIsRaised g.terminals → StandsAgain g
-stands_again_recalling g sound apart budget its_budget of_lines again more last its_last run its_turns same kept its_kept =
+pub stands_again_recalling : (g : GrammarParts) → IsSound g → NoneIsRaised g.terminals → AreUtf8 g.terminals → StandsAgain g
+stands_again_recalling g sound apart utf8 budget its_budget of_lines again more last its_last run its_turns same unraised kept its_kept =
     let first : Recalling = without_history (first_holding g budget) in
     let other : Recalling = without_history (first_holding g its_budget) in
     let halves = spends_parts (map exchange_of of_lines) more kept in
@@ -113,8 +116,9 @@ stands_again_recalling g sound apart budget its_budget of_lines again more last 
     subst (λ (asked : List LineRequest). Asks other asked its_last) same (asks_lines again other its_last its_turns its_kept) in
     let mid = asks_again (asked_of of_lines) (map lines.Step (changes_of more)) first run.mid its_budget other its_last
     (record { state = refl; past = refl; future = refl }) (asks_lines of_lines first run.mid run.turns halves.0) asks in
-    let ready = lines_ready g sound apart budget of_lines run.mid run.turns in
-    made_run more run.mid.wiki last mid.0 its_last ready.ready run.steps halves.1 (alike run.mid mid.0 mid.1.state) mid.2
+    let asked = asked_parts GivesUnraised (map exchange_of of_lines) more unraised in
+    let ready = lines_ready g sound apart utf8 budget of_lines run.mid run.turns asked.0 in
+    made_run more run.mid.wiki last mid.0 its_last ready.ready run.steps asked.1 halves.1 (alike run.mid mid.0 mid.1.state) mid.2
   where
     alike : (one other : Recalling) → other.wiki.state ≡ state_at one.wiki.state its_budget → StandAlike one.wiki.state.pages other.wiki.state.pages
     alike one other same =

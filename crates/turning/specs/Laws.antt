@@ -16,7 +16,8 @@ use Rattle.wiki_parts.specs.Knowledge.{Knows}
 use Rattle.wiki_core.specs.Holding.{Holding, first_holding, IsKept}
 use Rattle.wiki_core.specs.Stepping.{KeptStep}
 use Rattle.wiki_core.specs.Apart.{heard_by, tokens_in}
-use Rattle.wiki_core.specs.Journaled.{changes_of, SpendsNone, FitsLine, StandAlike}
+use Rattle.wiki_core.specs.Journaled.{changes_of, GivesUnraised, SpendsNone, FitsLine, StandAlike}
+use Rattle.wiki_core.specs.Journaled as core
 use Rattle.turning.specs.Turning.{Recalling, without_history, article_changed, KeptTurn}
 
 -- ---- runs
@@ -44,8 +45,8 @@ asked_in no_request = []
 abbrev pub asked_of : List (Exchange LineRequest Reply) → List LineRequest
 asked_of exchanges = flat_map asked_in exchanges
 
--- A session's tokens are a function of the grammar and of what the session heard: in any two runs over the grammar, whatever the budgets
--- are, and whatever else was asked, taken back or done again, two sessions that heard the same have the same tokens.
+-- A session's tokens are a function of the grammar that the wiki began with and of what the session heard: in any two runs from that grammar
+-- on, whatever the budgets are, and whatever else was asked, taken back or done again, two sessions that heard the same have the same tokens.
 abbrev pub TokensAreOwn : GrammarParts → Type 0
 TokensAreOwn g =
     (budget its_budget : ℕ) (of_lines its_lines : List (Exchange LineRequest Reply)) (more its_more : List (Exchange Request Reply)) (last its_last : Holding)
@@ -54,23 +55,29 @@ TokensAreOwn g =
     → heard_by number (exchanges_of of_lines more) ≡ heard_by its_number (exchanges_of its_lines its_more)
     → tokens_in last.state number ≡ tokens_in its_last.state its_number
 
+-- no grammar that is given in a run has a terminal that is another one with its first letter raised to upper case
+abbrev pub GiveUnraised : List (Exchange LineRequest Reply) → List (Exchange Request Reply) → Type 0
+GiveUnraised of_lines more = All GivesUnraised (core.asked_of (exchanges_of of_lines more))
+
 -- What stands is what is read. Take any run, and turns that ask for all that its lines asked again, and then for the changes of its
--- requests. Where no reply of the two tells that a budget was spent, the turns end with the words, the last number of a word, the articles,
--- their revisions, their sentences and statuses with which the run ends.
+-- requests. Where no grammar that is given has a terminal that is another one raised, and no reply of the two tells that a budget was spent,
+-- the turns end with the grammar, the words, the last number of a word, the articles, their revisions, their sentences and statuses with
+-- which the run ends.
 abbrev pub StandsAgain : GrammarParts → Type 0
 StandsAgain g =
     (budget its_budget : ℕ) (of_lines again : List (Exchange LineRequest Reply)) (more : List (Exchange Request Reply)) (last : Holding) (its_last : Recalling)
     → IsRun (without_history (first_holding g budget)) of_lines more last
     → Turns KeptTurn (without_history (first_holding g its_budget)) again its_last
     → asked_of again ≡ asked_of of_lines ++ map lines.Step (changes_of more)
+    → GiveUnraised of_lines more
     → SpendsNone (exchanges_of of_lines more) → SpendsNone (map exchange_of again)
     → StandAlike last.state.pages its_last.wiki.state.pages
 
--- Each change of a run's requests fits a short line, however long the text was that was sent.
+-- Each change of a run's requests but for that of the grammar fits a short line, however long the text was that was sent.
 abbrev pub ChangesFitLines : GrammarParts → Type 0
 ChangesFitLines g =
     (budget : ℕ) (of_lines : List (Exchange LineRequest Reply)) (more : List (Exchange Request Reply)) (last : Holding)
-    → IsRun (without_history (first_holding g budget)) of_lines more last → All FitsLine (changes_of more)
+    → IsRun (without_history (first_holding g budget)) of_lines more last → GiveUnraised of_lines more → All FitsLine (changes_of more)
 
 -- ---- changes that are taken back
 

@@ -28,6 +28,7 @@ pub(crate) fn article_changed(wiki: &Wiki, request: &Request) -> Option<WordId>
         | Request::Parse { .. }
         | Request::Reword { .. }
         | Request::Unword { .. }
+        | Request::Grammar { .. }
         | Request::Read { .. }
         | Request::Axioms { .. }
         | Request::Begin { .. }
@@ -39,13 +40,16 @@ pub(crate) fn article_changed(wiki: &Wiki, request: &Request) -> Option<WordId>
     }
 }
 
-// Whether a request changes words, if it is done.
+// Whether a request changes words or the grammar, if it is done.
 pub(crate) fn changes_words(request: &Request) -> bool
     ensures { result ≡ changes_words request.now }
 {
     matches!(
         request,
-        Request::Word { .. } | Request::Reword { .. } | Request::Unword { .. }
+        Request::Word { .. }
+            | Request::Reword { .. }
+            | Request::Unword { .. }
+            | Request::Grammar { .. }
     )
 }
 

@@ -211,6 +211,8 @@ does_made old (requests.Reword text texts) reply new ready step free x =
     own_made old (requests.Reword text texts) reply replies.Reword new x.answer refl refl refl step
 does_made old (requests.Unword text) reply new ready step free x =
     own_made old (requests.Unword text) reply replies.Unword new x.answer refl refl refl step
+does_made old (requests.Grammar text) reply new ready step free x =
+    own_made old (requests.Grammar text) reply replies.Grammar new x.answer refl refl refl step
 does_made old (requests.Add article given text) reply new ready step free x =
     let tokens : List (List ℕ) = tokens_of old text in
     let text_shown : List ℕ = shown old.grammar.terminals tokens in

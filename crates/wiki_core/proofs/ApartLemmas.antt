@@ -20,85 +20,86 @@ use Rattle.wiki_core.specs.Step.{StepsSession, Step}
 use Rattle.wiki_core.specs.Apart as apart
 use Rattle.wiki_core.proofs.SeenLemmas.{Own, own, RebasesOwn, ended}
 use Rattle.wiki_core.proofs.HearLemmas.{Seen, Follows, follows_one, follows_append}
-use Rattle.wiki_core.proofs.RunLemmas.{seen, IsApt, Shows, shows_same, session_told, tells_begin, word_shows, reword_shows, unword_shows, other_shows, put_shows, back_shows, drop_shows, commit_shows, put_other, back_other, drop_other, commit_other, commit_refused, menu_shows, refresh_shows, begin_other, begin_shows}
+use Rattle.wiki_core.proofs.RunLemmas.{seen, IsApt, Shows, shows_same, session_told, tells_begin, word_shows, reword_shows, unword_shows, grammar_shows, other_shows, put_shows, back_shows, drop_shows, commit_shows, put_other, back_other, drop_other, commit_other, commit_refused, menu_shows, refresh_shows, begin_other, begin_shows}
 
-module _ (g : GrammarParts) (old new : State) (number : ℕ) (over : old.pages.grammar ≡ g) (apt : IsApt old) where
+module _ (old new : State) (number : ℕ) (apt : IsApt old) where
   -- a step while the session is open
   pub open_step : number ≤ old.last → (request : Request) (reply : Reply) → Step old request reply new
-      → Shows g old new number (apart.heard_open number (answered request reply))
-  open_step below (requests.Word kind forms) reply step = word_shows g old new number over apt kind forms reply step
-  open_step below (requests.Find word) reply step = other_shows g old new number over apt (requests.Find word) reply refl step.pages step.sessions step.last
-  open_step below requests.Words reply step = other_shows g old new number over apt requests.Words reply refl step.pages step.sessions step.last
-  open_step below (requests.Parse text) reply step = other_shows g old new number over apt (requests.Parse text) reply refl step.pages step.sessions step.last
-  open_step below (requests.Reword form forms) reply step = reword_shows g old new number over apt form forms reply step
-  open_step below (requests.Unword form) reply step = unword_shows g old new number over apt form reply step
+      → Shows old new number (apart.heard_open number (answered request reply))
+  open_step below (requests.Word kind forms) reply step = word_shows old new number apt kind forms reply step
+  open_step below (requests.Find word) reply step = other_shows old new number apt (requests.Find word) reply refl step.pages step.sessions step.last
+  open_step below requests.Words reply step = other_shows old new number apt requests.Words reply refl step.pages step.sessions step.last
+  open_step below (requests.Parse text) reply step = other_shows old new number apt (requests.Parse text) reply refl step.pages step.sessions step.last
+  open_step below (requests.Reword form forms) reply step = reword_shows old new number apt form forms reply step
+  open_step below (requests.Unword form) reply step = unword_shows old new number apt form reply step
+  open_step below (requests.Grammar text) reply step = grammar_shows old new number apt text reply step
   open_step below (requests.Add article given text) reply step =
-      other_shows g old new number over apt (requests.Add article given text) reply refl step.pages step.sessions step.last
+      other_shows old new number apt (requests.Add article given text) reply refl step.pages step.sessions step.last
   open_step below (requests.Edit article place text) reply step =
-      other_shows g old new number over apt (requests.Edit article place text) reply refl step.pages step.sessions step.last
+      other_shows old new number apt (requests.Edit article place text) reply refl step.pages step.sessions step.last
   open_step below (requests.Remove article place) reply step =
-      other_shows g old new number over apt (requests.Remove article place) reply refl step.pages step.sessions step.last
+      other_shows old new number apt (requests.Remove article place) reply refl step.pages step.sessions step.last
   open_step below (requests.Retract article place) reply step =
-      other_shows g old new number over apt (requests.Retract article place) reply refl step.pages step.sessions step.last
+      other_shows old new number apt (requests.Retract article place) reply refl step.pages step.sessions step.last
   open_step below (requests.Reassert article place) reply step =
-      other_shows g old new number over apt (requests.Reassert article place) reply refl step.pages step.sessions step.last
+      other_shows old new number apt (requests.Reassert article place) reply refl step.pages step.sessions step.last
   open_step below (requests.Read article) reply step =
-      other_shows g old new number over apt (requests.Read article) reply refl step.pages step.sessions step.last
+      other_shows old new number apt (requests.Read article) reply refl step.pages step.sessions step.last
   open_step below (requests.Axioms article place) reply step =
-      other_shows g old new number over apt (requests.Axioms article place) reply refl step.pages step.sessions step.last
+      other_shows old new number apt (requests.Axioms article place) reply refl step.pages step.sessions step.last
   open_step below (requests.Begin form) reply step =
-      begin_other g old new number over apt form reply (ne_eqb (old.last + 1) number (λ same. omega (arith, same, below))) step
+      begin_other old new number apt form reply (ne_eqb (old.last + 1) number (λ same. omega (arith, same, below))) step
   open_step below (requests.Put n text) reply step = by_test (n == number) refl
     where
-      by_test : (b : Bool) → (n == number) ≡ b → Shows g old new number (cond b (apart.typed text ∷ []) [])
-      by_test true is = put_shows g old new number over apt text reply
+      by_test : (b : Bool) → (n == number) ≡ b → Shows old new number (cond b (apart.typed text ∷ []) [])
+      by_test true is = put_shows old new number apt text reply
           (subst (λ (k : ℕ). StepsSession old (requests.Put k text) reply new) (eqb-true n number is) step)
-      by_test false is = put_other g old new number over apt n text reply is step
+      by_test false is = put_other old new number apt n text reply is step
   open_step below (requests.Back n) reply step = by_test (n == number) refl
     where
-      by_test : (b : Bool) → (n == number) ≡ b → Shows g old new number (cond b (apart.stepped_back ∷ []) [])
-      by_test true is = back_shows g old new number over apt reply (subst (λ (k : ℕ). StepsSession old (requests.Back k) reply new) (eqb-true n number is) step)
-      by_test false is = back_other g old new number over apt n reply is step
-  open_step below (requests.Menu n) reply step = menu_shows g old new number over apt n reply step
+      by_test : (b : Bool) → (n == number) ≡ b → Shows old new number (cond b (apart.stepped_back ∷ []) [])
+      by_test true is = back_shows old new number apt reply (subst (λ (k : ℕ). StepsSession old (requests.Back k) reply new) (eqb-true n number is) step)
+      by_test false is = back_other old new number apt n reply is step
+  open_step below (requests.Menu n) reply step = menu_shows old new number apt n reply step
   open_step below (requests.Commit n) (replies.Commit form status text) step = by_test (n == number) refl
     where
-      by_test : (b : Bool) → (n == number) ≡ b → Shows g old new number (cond b (apart.committed ∷ []) [])
-      by_test true is = commit_shows g old new number over apt form status text
+      by_test : (b : Bool) → (n == number) ≡ b → Shows old new number (cond b (apart.committed ∷ []) [])
+      by_test true is = commit_shows old new number apt form status text
           (subst (λ (k : ℕ). StepsSession old (requests.Commit k) (replies.Commit form status text) new) (eqb-true n number is) step)
-      by_test false is = commit_other g old new number over apt n form status text is step
-  open_step below (requests.Commit n) reply step = commit_refused g old new number over apt n reply refl step
-  open_step below (requests.Refresh n) reply step = refresh_shows g old new number over apt n reply step
+      by_test false is = commit_other old new number apt n form status text is step
+  open_step below (requests.Commit n) reply step = commit_refused old new number apt n reply refl step
+  open_step below (requests.Refresh n) reply step = refresh_shows old new number apt n reply step
   open_step below (requests.Drop n) reply step = by_test (n == number) refl
     where
-      by_test : (b : Bool) → (n == number) ≡ b → Shows g old new number (cond b (apart.dropped ∷ []) [])
-      by_test true is = drop_shows g old new number over apt reply (subst (λ (k : ℕ). StepsSession old (requests.Drop k) reply new) (eqb-true n number is) step)
-      by_test false is = drop_other g old new number over apt n reply is step
+      by_test : (b : Bool) → (n == number) ≡ b → Shows old new number (cond b (apart.dropped ∷ []) [])
+      by_test true is = drop_shows old new number apt reply (subst (λ (k : ℕ). StepsSession old (requests.Drop k) reply new) (eqb-true n number is) step)
+      by_test false is = drop_other old new number apt n reply is step
 
   -- ---- before the session is open
 
   module _ (none : session_numbered old number ≡ None) where
-    put_none : (n : ℕ) (text : List ℕ) (reply : Reply) → (n == number) ≡ true → StepsSession old (requests.Put n text) reply new → Shows g old new number []
-    put_none n text (replies.Refused refusal) is step = shows_same g old new number over apt step.1
+    put_none : (n : ℕ) (text : List ℕ) (reply : Reply) → (n == number) ≡ true → StepsSession old (requests.Put n text) reply new → Shows old new number []
+    put_none n text (replies.Refused refusal) is step = shows_same old new number apt step.1
     put_none n text reply is step = absurd (none-some step.1.session (sym none ∙ ap (session_numbered old) (sym (eqb-true n number is)) ∙ step.1.named))
 
-    back_none : (n : ℕ) (reply : Reply) → (n == number) ≡ true → StepsSession old (requests.Back n) reply new → Shows g old new number []
-    back_none n (replies.Refused refusal) is step = shows_same g old new number over apt step.1
+    back_none : (n : ℕ) (reply : Reply) → (n == number) ≡ true → StepsSession old (requests.Back n) reply new → Shows old new number []
+    back_none n (replies.Refused refusal) is step = shows_same old new number apt step.1
     back_none n reply is step = absurd (none-some step.1.session (sym none ∙ ap (session_numbered old) (sym (eqb-true n number is)) ∙ step.1.named))
 
-    drop_none : (n : ℕ) (reply : Reply) → (n == number) ≡ true → StepsSession old (requests.Drop n) reply new → Shows g old new number []
-    drop_none n (replies.Refused refusal) is step = shows_same g old new number over apt step.1
+    drop_none : (n : ℕ) (reply : Reply) → (n == number) ≡ true → StepsSession old (requests.Drop n) reply new → Shows old new number []
+    drop_none n (replies.Refused refusal) is step = shows_same old new number apt step.1
     drop_none n reply is step = absurd (step.0 (NoSession n) (record { none = ap (session_numbered old) (eqb-true n number is) ∙ none; told = refl }))
 
     commit_none : (n : ℕ) (form : List ℕ) (status : Status) (text : List ℕ) → (n == number) ≡ true
-        → StepsSession old (requests.Commit n) (replies.Commit form status text) new → Shows g old new number []
+        → StepsSession old (requests.Commit n) (replies.Commit form status text) new → Shows old new number []
     commit_none n form status text is step =
         absurd (none-some step.1.session (sym none ∙ ap (session_numbered old) (sym (eqb-true n number is)) ∙ step.1.named))
 
     begin_none : (form : List ℕ) (reply : Reply) → apart.opened_by number (answered (requests.Begin form) reply) ≡ None
-        → StepsSession old (requests.Begin form) reply new → Shows g old new number []
-    begin_none form (replies.Refused refusal) not_this step = shows_same g old new number over apt step.1
+        → StepsSession old (requests.Begin form) reply new → Shows old new number []
+    begin_none form (replies.Refused refusal) not_this step = shows_same old new number apt step.1
     begin_none form (replies.Begin session) not_this step =
-        begin_other g old new number over apt form (replies.Begin session)
+        begin_other old new number apt form (replies.Begin session)
         (ap (λ (n : ℕ). n == number) (sym (ap session_told step.1.answer)) ∙ not_opened (session == number) not_this) step
       where
         not_opened : (b : Bool) → cond b (Some form) None ≡ None → b ≡ false
@@ -108,53 +109,54 @@ module _ (g : GrammarParts) (old new : State) (number : ℕ) (over : old.pages.g
 
     -- a step before the session is open, which doesn't open it
     pub before_step : (request : Request) (reply : Reply) → apart.opened_by number (answered request reply) ≡ None → Step old request reply new
-        → Shows g old new number (apart.heard_of_words (answered request reply))
-    before_step (requests.Word kind forms) reply not_this step = word_shows g old new number over apt kind forms reply step
+        → Shows old new number (apart.heard_of_words (answered request reply))
+    before_step (requests.Word kind forms) reply not_this step = word_shows old new number apt kind forms reply step
     before_step (requests.Find word) reply not_this step =
-        other_shows g old new number over apt (requests.Find word) reply refl step.pages step.sessions step.last
-    before_step requests.Words reply not_this step = other_shows g old new number over apt requests.Words reply refl step.pages step.sessions step.last
+        other_shows old new number apt (requests.Find word) reply refl step.pages step.sessions step.last
+    before_step requests.Words reply not_this step = other_shows old new number apt requests.Words reply refl step.pages step.sessions step.last
     before_step (requests.Parse text) reply not_this step =
-        other_shows g old new number over apt (requests.Parse text) reply refl step.pages step.sessions step.last
-    before_step (requests.Reword form forms) reply not_this step = reword_shows g old new number over apt form forms reply step
-    before_step (requests.Unword form) reply not_this step = unword_shows g old new number over apt form reply step
+        other_shows old new number apt (requests.Parse text) reply refl step.pages step.sessions step.last
+    before_step (requests.Reword form forms) reply not_this step = reword_shows old new number apt form forms reply step
+    before_step (requests.Unword form) reply not_this step = unword_shows old new number apt form reply step
+    before_step (requests.Grammar text) reply not_this step = grammar_shows old new number apt text reply step
     before_step (requests.Add article given text) reply not_this step =
-        other_shows g old new number over apt (requests.Add article given text) reply refl step.pages step.sessions step.last
+        other_shows old new number apt (requests.Add article given text) reply refl step.pages step.sessions step.last
     before_step (requests.Edit article place text) reply not_this step =
-        other_shows g old new number over apt (requests.Edit article place text) reply refl step.pages step.sessions step.last
+        other_shows old new number apt (requests.Edit article place text) reply refl step.pages step.sessions step.last
     before_step (requests.Remove article place) reply not_this step =
-        other_shows g old new number over apt (requests.Remove article place) reply refl step.pages step.sessions step.last
+        other_shows old new number apt (requests.Remove article place) reply refl step.pages step.sessions step.last
     before_step (requests.Retract article place) reply not_this step =
-        other_shows g old new number over apt (requests.Retract article place) reply refl step.pages step.sessions step.last
+        other_shows old new number apt (requests.Retract article place) reply refl step.pages step.sessions step.last
     before_step (requests.Reassert article place) reply not_this step =
-        other_shows g old new number over apt (requests.Reassert article place) reply refl step.pages step.sessions step.last
+        other_shows old new number apt (requests.Reassert article place) reply refl step.pages step.sessions step.last
     before_step (requests.Read article) reply not_this step =
-        other_shows g old new number over apt (requests.Read article) reply refl step.pages step.sessions step.last
+        other_shows old new number apt (requests.Read article) reply refl step.pages step.sessions step.last
     before_step (requests.Axioms article place) reply not_this step =
-        other_shows g old new number over apt (requests.Axioms article place) reply refl step.pages step.sessions step.last
+        other_shows old new number apt (requests.Axioms article place) reply refl step.pages step.sessions step.last
     before_step (requests.Begin form) reply not_this step = begin_none form reply not_this step
     before_step (requests.Put n text) reply not_this step = by_test (n == number) refl
       where
-        by_test : (b : Bool) → (n == number) ≡ b → Shows g old new number []
+        by_test : (b : Bool) → (n == number) ≡ b → Shows old new number []
         by_test true is = put_none n text reply is step
-        by_test false is = put_other g old new number over apt n text reply is step
+        by_test false is = put_other old new number apt n text reply is step
     before_step (requests.Back n) reply not_this step = by_test (n == number) refl
       where
-        by_test : (b : Bool) → (n == number) ≡ b → Shows g old new number []
+        by_test : (b : Bool) → (n == number) ≡ b → Shows old new number []
         by_test true is = back_none n reply is step
-        by_test false is = back_other g old new number over apt n reply is step
-    before_step (requests.Menu n) reply not_this step = menu_shows g old new number over apt n reply step
+        by_test false is = back_other old new number apt n reply is step
+    before_step (requests.Menu n) reply not_this step = menu_shows old new number apt n reply step
     before_step (requests.Commit n) (replies.Commit form status text) not_this step = by_test (n == number) refl
       where
-        by_test : (b : Bool) → (n == number) ≡ b → Shows g old new number []
+        by_test : (b : Bool) → (n == number) ≡ b → Shows old new number []
         by_test true is = commit_none n form status text is step
-        by_test false is = commit_other g old new number over apt n form status text is step
-    before_step (requests.Commit n) reply not_this step = commit_refused g old new number over apt n reply refl step
-    before_step (requests.Refresh n) reply not_this step = refresh_shows g old new number over apt n reply step
+        by_test false is = commit_other old new number apt n form status text is step
+    before_step (requests.Commit n) reply not_this step = commit_refused old new number apt n reply refl step
+    before_step (requests.Refresh n) reply not_this step = refresh_shows old new number apt n reply step
     before_step (requests.Drop n) reply not_this step = by_test (n == number) refl
       where
-        by_test : (b : Bool) → (n == number) ≡ b → Shows g old new number []
+        by_test : (b : Bool) → (n == number) ≡ b → Shows old new number []
         by_test true is = drop_none n reply is step
-        by_test false is = drop_other g old new number over apt n reply is step
+        by_test false is = drop_other old new number apt n reply is step
 
 -- what isn't seen of a session isn't there
 pub none_seen : (o : Option PlainSession) → option_map own o ≡ None → o ≡ None
@@ -166,17 +168,21 @@ rebases_none : (g : GrammarParts) (words : Listed) (was is : Option Own) → was
 rebases_none g words None is none rebased = rebased
 rebases_none g words (Some own) is none rebased = absurd (none-some own (sym none))
 
--- changes of words open no session
-pub none_follows : (g : GrammarParts) (old new : Seen) (request : Request) (reply : Reply) → Follows g old (apart.heard_of_words (answered request reply)) new
+rebased_none : (old new mid : Seen) → new ≡ mid → old.own ≡ None → RebasesOwn mid.shared.grammar mid.shared.words old.own mid.own → new.own ≡ None
+rebased_none old new mid is none rebases =
+    ap (λ (s : Seen). s.own) is ∙ rebases_none mid.shared.grammar mid.shared.words old.own mid.own none rebases
+
+-- changes of words and of the grammar open no session
+pub none_follows : (old new : Seen) (request : Request) (reply : Reply) → Follows old (apart.heard_of_words (answered request reply)) new
     → old.own ≡ None → new.own ≡ None
-none_follows g old new (requests.Word kind forms) replies.Word follows none =
-    ap (λ (s : Seen). s.own) follows.2 ∙ rebases_none g follows.0.words old.own follows.0.own none follows.1.1
-none_follows g old new (requests.Reword form forms) replies.Reword follows none =
-    ap (λ (s : Seen). s.own) follows.2 ∙ rebases_none g follows.0.words old.own follows.0.own none follows.1.1
-none_follows g old new (requests.Unword form) replies.Unword follows none =
+none_follows old new (requests.Word kind forms) replies.Word follows none = rebased_none old new follows.0 follows.2 none follows.1.1
+none_follows old new (requests.Reword form forms) replies.Reword follows none = rebased_none old new follows.0 follows.2 none follows.1.1
+none_follows old new (requests.Grammar text) replies.Grammar follows none = rebased_none old new follows.0 follows.2 none follows.1.1
+none_follows old new (requests.Unword form) replies.Unword follows none =
     let changes = follows.1.1 in
-    ap (λ (s : Seen). s.own) follows.2 ∙ changes.4 ∙ ap (ended changes.0) (rebases_none g follows.0.words old.own changes.1 none changes.3)
-none_follows g old new request reply follows none = ap (λ (s : Seen). s.own) follows ∙ none
+    ap (λ (s : Seen). s.own) follows.2 ∙ changes.4
+    ∙ ap (ended changes.0) (rebases_none follows.0.shared.grammar follows.0.shared.words old.own changes.1 none changes.3)
+none_follows old new request reply follows none = ap (λ (s : Seen). s.own) follows ∙ none
 
 -- an exchange that opens the session is a request for one, which is told its number
 pub record Opens (number : ℕ) (request : Request) (reply : Reply) (form : List ℕ) : Type 0 where
@@ -196,54 +202,54 @@ opens_by number request reply form is = absurd (none-some form is)
 -- ---- runs
 
 -- all turns while the session is open
-run_open : (g : GrammarParts) (number : ℕ) (exchanges : List (Exchange Request Reply)) (old last : State) → old.pages.grammar ≡ g → IsApt old
+run_open : (number : ℕ) (exchanges : List (Exchange Request Reply)) (old last : State) → IsApt old
     → number ≤ old.last → Turns Step old exchanges last
-    → Follows g (seen old number) (flat_map (apart.heard_open number) exchanges) (seen last number)
-run_open g number [] old last over apt below turns = ap (λ (s : State). seen s number) turns
-run_open g number (no_request ∷ exchanges) old last over apt below (next, same, rest) =
-    subst (λ (s : State). Follows g (seen s number) (flat_map (apart.heard_open number) exchanges) (seen last number)) same
-    (run_open g number exchanges next last (ap (λ (s : State). s.pages.grammar) same ∙ over) (subst IsApt (sym same) apt)
+    → Follows (seen old number) (flat_map (apart.heard_open number) exchanges) (seen last number)
+run_open number [] old last apt below turns = ap (λ (s : State). seen s number) turns
+run_open number (no_request ∷ exchanges) old last apt below (next, same, rest) =
+    subst (λ (s : State). Follows (seen s number) (flat_map (apart.heard_open number) exchanges) (seen last number)) same
+    (run_open number exchanges next last (subst IsApt (sym same) apt)
     (subst (λ (s : State). number ≤ s.last) (sym same) below) rest)
-run_open g number (answered request reply ∷ exchanges) old last over apt below (next, step, rest) =
-    let shows = open_step g old next number over apt below request reply step in
+run_open number (answered request reply ∷ exchanges) old last apt below (next, step, rest) =
+    let shows = open_step old next number apt below request reply step in
     let later = shows.later in
-    follows_append g (seen old number) (apart.heard_open number (answered request reply)) (seen next number) (flat_map (apart.heard_open number) exchanges)
+    follows_append (seen old number) (apart.heard_open number (answered request reply)) (seen next number) (flat_map (apart.heard_open number) exchanges)
     (seen last number) shows.follows
-    (run_open g number exchanges next last shows.grammar shows.apt (omega (arith, below, later)) rest)
+    (run_open number exchanges next last shows.apt (omega (arith, below, later)) rest)
 
 -- all turns from before the session is open
-run_before : (g : GrammarParts) (number : ℕ) (exchanges : List (Exchange Request Reply)) (old last : State) → old.pages.grammar ≡ g → IsApt old
+run_before : (number : ℕ) (exchanges : List (Exchange Request Reply)) (old last : State) → IsApt old
     → session_numbered old number ≡ None
-    → Turns Step old exchanges last → Follows g (seen old number) (apart.heard_by number exchanges) (seen last number)
-run_before g number [] old last over apt none turns = ap (λ (s : State). seen s number) turns
-run_before g number (no_request ∷ exchanges) old last over apt none (next, same, rest) =
-    subst (λ (s : State). Follows g (seen s number) (apart.heard_by number exchanges) (seen last number)) same
-    (run_before g number exchanges next last (ap (λ (s : State). s.pages.grammar) same ∙ over) (subst IsApt (sym same) apt)
+    → Turns Step old exchanges last → Follows (seen old number) (apart.heard_by number exchanges) (seen last number)
+run_before number [] old last apt none turns = ap (λ (s : State). seen s number) turns
+run_before number (no_request ∷ exchanges) old last apt none (next, same, rest) =
+    subst (λ (s : State). Follows (seen s number) (apart.heard_by number exchanges) (seen last number)) same
+    (run_before number exchanges next last (subst IsApt (sym same) apt)
     (subst (λ (s : State). session_numbered s number ≡ None) (sym same) none) rest)
-run_before g number (answered request reply ∷ exchanges) old last over apt none (next, step, rest) =
-    by_case (apart.opened_by number (answered request reply)) refl (run_before g number exchanges next last)
+run_before number (answered request reply ∷ exchanges) old last apt none (next, step, rest) =
+    by_case (apart.opened_by number (answered request reply)) refl (run_before number exchanges next last)
   where
     by_case : (o : Option (List ℕ)) → apart.opened_by number (answered request reply) ≡ o
-        → (next.pages.grammar ≡ g → IsApt next → session_numbered next number ≡ None → Turns Step next exchanges last
-        → Follows g (seen next number) (apart.heard_by number exchanges) (seen last number))
-        → Follows g (seen old number)
+        → (IsApt next → session_numbered next number ≡ None → Turns Step next exchanges last
+        → Follows (seen next number) (apart.heard_by number exchanges) (seen last number))
+        → Follows (seen old number)
         (option_map_or (λ form. apart.opened form ∷ flat_map (apart.heard_open number) exchanges) o
         (apart.heard_of_words (answered request reply) ++ apart.heard_by number exchanges)) (seen last number)
     by_case None is going_on =
-        let shows = before_step g old next number over apt none request reply is step in
+        let shows = before_step old next number apt none request reply is step in
         let still = none_seen (session_numbered next number)
-        (none_follows g (seen old number) (seen next number) request reply shows.follows (ap (option_map own) none)) in
-        follows_append g (seen old number) (apart.heard_of_words (answered request reply)) (seen next number) (apart.heard_by number exchanges)
+        (none_follows (seen old number) (seen next number) request reply shows.follows (ap (option_map own) none)) in
+        follows_append (seen old number) (apart.heard_of_words (answered request reply)) (seen next number) (apart.heard_by number exchanges)
         (seen last number) shows.follows
-        (going_on shows.grammar shows.apt still rest)
+        (going_on shows.apt still rest)
     by_case (Some form) is going_on =
         let opens = opens_by number request reply form is in
         let step_on : StepsSession old (requests.Begin form) (replies.Begin number) next =
         subst (λ (r : Reply). Step old (requests.Begin form) r next) opens.told (subst (λ (q : Request). Step old q reply next) opens.asked step) in
-        let shows = begin_shows g old next number over apt form none step_on in
-        follows_append g (seen old number) (apart.opened form ∷ []) (seen next number) (flat_map (apart.heard_open number) exchanges) (seen last number)
+        let shows = begin_shows old next number apt form none step_on in
+        follows_append (seen old number) (apart.opened form ∷ []) (seen next number) (flat_map (apart.heard_open number) exchanges) (seen last number)
         shows.0.follows
-        (run_open g number exchanges next last shows.0.grammar shows.0.apt shows.1 rest)
+        (run_open number exchanges next last shows.0.apt shows.1 rest)
 
 -- the tokens are seen
 pub tokens_seen : (state : State) (number : ℕ) → apart.tokens_in state number ≡ option_map (λ (o : Own). o.tokens) (seen state number).own
@@ -253,11 +259,11 @@ tokens_seen state number = by_case (session_numbered state number)
     by_case None = refl
     by_case (Some s) = refl
 
--- a session's tokens are a function of the grammar and of what the session heard
+-- a session's tokens are a function of the first grammar and of what the session heard
 pub tokens_own : (g : GrammarParts) → apart.TokensAreOwn g
 tokens_own g budget its_budget one other end its_end number its_number turns its_turns same =
-    let follows = run_before g number one (first_state g budget) end refl (omega arith) refl turns in
-    let its_follows = run_before g its_number other (first_state g its_budget) its_end refl (omega arith) refl its_turns in
-    let seen_same = follows_one g (seen (first_state g budget) number) (apart.heard_by number one) (seen end number) (seen its_end its_number) follows
-    (subst (λ (heard : List apart.Heard). Follows g (seen (first_state g budget) number) heard (seen its_end its_number)) (sym same) its_follows) in
+    let follows = run_before number one (first_state g budget) end (omega arith) refl turns in
+    let its_follows = run_before its_number other (first_state g its_budget) its_end (omega arith) refl its_turns in
+    let seen_same = follows_one (seen (first_state g budget) number) (apart.heard_by number one) (seen end number) (seen its_end its_number) follows
+    (subst (λ (heard : List apart.Heard). Follows (seen (first_state g budget) number) heard (seen its_end its_number)) (sym same) its_follows) in
     tokens_seen end number ∙ ap (λ (s : Seen). option_map (λ (o : Own). o.tokens) s.own) (sym seen_same) ∙ sym (tokens_seen its_end its_number)

@@ -11,7 +11,7 @@ use Rattle.derivations.proofs.Members.{all_among}
 use Rattle.derivations.proofs.CutLemmas.{Passing, any_passes}
 use Rattle.ace_grammar.specs.Names.{terminal_texts}
 use Rattle.ace_grammar.specs.Grammar.{ace_grammar}
-use Rattle.wiki_core.specs.Journaled.{NoneIsRaised, AreShort, AreUtf8}
+use Rattle.wiki_core.specs.Journaled.{NoneIsRaised, AreUtf8}
 
 -- a terminal that is the other one raised is the other one
 abbrev is_apart : List ℕ → List ℕ → Bool
@@ -40,14 +40,6 @@ none_raised terminals apart token is terminal also same =
     let pair : is_apart one.one other.one ≡ true = all_among (is_apart one.one) terminals other.one row other.among in
     first ∙ apart_pair one.one other.one pair (sym first ∙ same ∙ ap raised second) ∙ sym second
 
--- each terminal is short, where the test says so
-pub all_short : (terminals : List (List ℕ)) → list_all (λ t. nat_le (length t) 64) terminals ≡ true → AreShort terminals
-all_short terminals short terminal is =
-    let one : Passing (bytes_eq terminal) terminals = any_passes (bytes_eq terminal) terminals is in
-    let same : terminal ≡ one.one = (bytes_eq-Decides terminal one.one).0 one.passes in
-    let below : nat_le (length one.one) 64 ≡ true = all_among (λ (t : List ℕ). nat_le (length t) 64) terminals one.one short one.among in
-    subst (λ (t : List ℕ). length t ≤ 64) (sym same) (grind (arith, nat_tests))
-
 -- each terminal is in UTF-8, where the test says so
 pub all_utf8 : (terminals : List (List ℕ)) → list_all is_utf8 terminals ≡ true → AreUtf8 terminals
 all_utf8 terminals utf8 terminal is =
@@ -60,12 +52,7 @@ pub built_in_apart : NoneIsRaised ace_grammar.terminals
 unfolding ace_grammar
 built_in_apart = none_raised terminal_texts refl
 
--- and each has at most 64 bytes
-pub built_in_short : AreShort ace_grammar.terminals
-unfolding ace_grammar
-built_in_short = all_short terminal_texts refl
-
--- and is in UTF-8
+-- and each is in UTF-8
 pub built_in_utf8 : AreUtf8 ace_grammar.terminals
 unfolding ace_grammar is_utf8 chars lib.Utf8.encode
 built_in_utf8 = all_utf8 terminal_texts refl

@@ -6,7 +6,9 @@ use Rattle.wiki_base.specs.declared.numbers.WordId.{WordId}
 use Rattle.wiki_base.specs.declared.tokens.TheConstants.{MOST_TOKENS}
 use Rattle.codeco_terms.specs.GrammarParts.{GrammarParts}
 use Rattle.lexicon.specs.declared.kinds.Forms.{Forms}
-use Rattle.lexicon.specs.Words.{Listed, owner, forms_of, with_word, with_forms, without_word}
+use Rattle.codeco_reader.specs.Texts.{IsTextOf}
+use Rattle.codeco_reader.proofs.OneGrammar.{same_grammar}
+use Rattle.lexicon.specs.Words.{Listed, owner, forms_of, with_word, with_forms, without_word, with_terminals}
 use Rattle.derivation_trees.specs.Partial.{IsTypeable}
 use Rattle.editor.specs.Editing.{typed, IsInMenu}
 use Rattle.editor.specs.Rebasing.{IsRebased}
@@ -16,25 +18,37 @@ use Rattle.wiki_parts.specs.Words.{forms_given}
 use Rattle.wiki_core.specs.Apart as apart
 use Rattle.wiki_core.proofs.SeenLemmas.{Own, RebasesOwn, ended}
 
--- what a session sees: the words, and itself where it is open
-pub record Seen : Type 0 where
+-- what all sessions share: the grammar and the words
+pub record Shared : Type 0 where
+  pub grammar : GrammarParts
   pub words : Listed
+
+-- what a session sees: what is shared, and itself where it is open
+pub record Seen : Type 0 where
+  pub shared : Shared
   pub own : Option Own
 
--- a request that changes words makes these of those
-abbrev pub WordsChange : Listed → Request → Listed → Type 0
-WordsChange old (requests.Word kind forms) new = new ≡ with_word old (forms_given kind forms)
-WordsChange old (requests.Reword form texts) new =
-    (word : WordId) × (forms : Forms) × (owner old.live form ≡ Some word) × (forms_of old.live word ≡ Some forms)
-    × (new ≡ with_forms old word (forms_given forms.kind texts))
-WordsChange old (requests.Unword form) new = (word : WordId) × (owner old.live form ≡ Some word) × (new ≡ without_word old word)
-WordsChange old request new = ⊥
+-- what is shared with other words
+abbrev pub with_words : Shared → Listed → Shared
+with_words old words = record { grammar = old.grammar; words = words }
 
--- what a session sees of itself by a request that changes words
-abbrev pub OwnChanges : GrammarParts → Listed → Request → Listed → Option Own → Option Own → Type 0
-OwnChanges g old (requests.Unword form) words was is =
-    (word : WordId) × (mid : Option Own) × (owner old.live form ≡ Some word) × RebasesOwn g words was mid × (is ≡ ended word mid)
-OwnChanges g old request words was is = RebasesOwn g words was is
+-- a request that changes words or the grammar makes this of that
+abbrev pub SharedChange : Shared → Request → Shared → Type 0
+SharedChange old (requests.Word kind forms) new = new ≡ with_words old (with_word old.words (forms_given kind forms))
+SharedChange old (requests.Reword form texts) new =
+    (word : WordId) × (forms : Forms) × (owner old.words.live form ≡ Some word) × (forms_of old.words.live word ≡ Some forms)
+    × (new ≡ with_words old (with_forms old.words word (forms_given forms.kind texts)))
+SharedChange old (requests.Unword form) new =
+    (word : WordId) × (owner old.words.live form ≡ Some word) × (new ≡ with_words old (without_word old.words word))
+SharedChange old (requests.Grammar text) new =
+    (g : GrammarParts) × IsTextOf text g × (new ≡ record { grammar = g; words = with_terminals old.words g.terminals })
+SharedChange old request new = ⊥
+
+-- what a session sees of itself by a request that changes words or the grammar
+abbrev pub OwnChanges : Shared → Request → Shared → Option Own → Option Own → Type 0
+OwnChanges old (requests.Unword form) new was is =
+    (word : WordId) × (mid : Option Own) × (owner old.words.live form ≡ Some word) × RebasesOwn new.grammar new.words was mid × (is ≡ ended word mid)
+OwnChanges old request new was is = RebasesOwn new.grammar new.words was is
 
 -- a text isn't typed behind tokens: there are too many, or it isn't in their menu
 abbrev pub IsNotTyped : GrammarParts → Listed → List ℕ → List (List ℕ) → Type 0
@@ -56,18 +70,18 @@ abbrev pub own_emptied : Own → Own
 own_emptied own = record { article = own.article; tokens = [] }
 
 -- what the session sees after what it hears
-abbrev pub Goes : GrammarParts → Seen → apart.Heard → Seen → Type 0
-Goes g old (apart.opened form) new = (new.words ≡ old.words)
-    × ((word : WordId) × (owner old.words.live form ≡ Some word) × (new.own ≡ Some (record { article = word; tokens = [] })))
-Goes g old (apart.typed text) new = (new.words ≡ old.words) × OwnTypes g old.words text old.own new.own
-Goes g old apart.stepped_back new = (new.words ≡ old.words) × (new.own ≡ option_map own_back old.own)
-Goes g old apart.committed new = (new.words ≡ old.words) × (new.own ≡ option_map own_emptied old.own)
-Goes g old apart.dropped new = (new.words ≡ old.words) × (new.own ≡ None)
-Goes g old (apart.changed request) new = WordsChange old.words request new.words × OwnChanges g old.words request new.words old.own new.own
+abbrev pub Goes : Seen → apart.Heard → Seen → Type 0
+Goes old (apart.opened form) new = (new.shared ≡ old.shared)
+    × ((word : WordId) × (owner old.shared.words.live form ≡ Some word) × (new.own ≡ Some (record { article = word; tokens = [] })))
+Goes old (apart.typed text) new = (new.shared ≡ old.shared) × OwnTypes old.shared.grammar old.shared.words text old.own new.own
+Goes old apart.stepped_back new = (new.shared ≡ old.shared) × (new.own ≡ option_map own_back old.own)
+Goes old apart.committed new = (new.shared ≡ old.shared) × (new.own ≡ option_map own_emptied old.own)
+Goes old apart.dropped new = (new.shared ≡ old.shared) × (new.own ≡ None)
+Goes old (apart.changed request) new = SharedChange old.shared request new.shared × OwnChanges old.shared request new.shared old.own new.own
 
-pub seen_is : (a b : Seen) → a.words ≡ b.words → a.own ≡ b.own → a ≡ b
-seen_is a b same_words same_own = ap (λ (words : Listed). record { words = words; own = a.own }) same_words
-    ∙ ap (λ (own : Option Own). record { words = b.words; own = own }) same_own
+pub seen_is : (a b : Seen) → a.shared ≡ b.shared → a.own ≡ b.own → a ≡ b
+seen_is a b same_shared same_own = ap (λ (shared : Shared). record { shared = shared; own = a.own }) same_shared
+    ∙ ap (λ (own : Option Own). record { shared = b.shared; own = own }) same_own
 
 -- rebased tokens are one
 rebased_one : (g : GrammarParts) (words : Listed) (tokens one other : List (List ℕ)) → IsRebased g words tokens one → IsRebased g words tokens other
@@ -93,26 +107,29 @@ own_rebased_one g words (Some old) one other (tokens, rebased, is) (its_tokens, 
     its ∙ ap (λ (ts : List (List ℕ)). Some (record { article = old.article; tokens = ts }))
     (rebased_one g words old.tokens tokens its_tokens rebased its_rebased) ∙ sym is
 
-words_one : (old : Listed) (request : Request) (one other : Listed) → WordsChange old request one → WordsChange old request other → other ≡ one
-words_one old (requests.Word kind forms) one other is its = its ∙ sym is
-words_one old (requests.Reword form texts) one other (word, forms, named, of_word, is) (its_word, its_forms, its_named, its_of_word, its) =
+shared_one : (old : Shared) (request : Request) (one other : Shared) → SharedChange old request one → SharedChange old request other → other ≡ one
+shared_one old (requests.Word kind forms) one other is its = its ∙ sym is
+shared_one old (requests.Reword form texts) one other (word, forms, named, of_word, is) (its_word, its_forms, its_named, its_of_word, its) =
     let same_word : its_word ≡ word = same_Some its_word word (sym its_named ∙ named) in
-    let same_forms : its_forms ≡ forms = same_Some its_forms forms (sym its_of_word ∙ ap (forms_of old.live) same_word ∙ of_word) in
-    its ∙ ap (λ (w : WordId). with_forms old w (forms_given its_forms.kind texts)) same_word
-    ∙ ap (λ (f : Forms). with_forms old word (forms_given f.kind texts)) same_forms ∙ sym is
-words_one old (requests.Unword form) one other (word, named, is) (its_word, its_named, its) =
+    let same_forms : its_forms ≡ forms = same_Some its_forms forms (sym its_of_word ∙ ap (forms_of old.words.live) same_word ∙ of_word) in
+    its ∙ ap (λ (w : WordId). with_words old (with_forms old.words w (forms_given its_forms.kind texts))) same_word
+    ∙ ap (λ (f : Forms). with_words old (with_forms old.words word (forms_given f.kind texts))) same_forms ∙ sym is
+shared_one old (requests.Unword form) one other (word, named, is) (its_word, its_named, its) =
     let same_word : its_word ≡ word = same_Some its_word word (sym its_named ∙ named) in
-    its ∙ ap (without_word old) same_word ∙ sym is
-words_one old request one other is its = absurd is
+    its ∙ ap (λ (w : WordId). with_words old (without_word old.words w)) same_word ∙ sym is
+shared_one old (requests.Grammar text) one other (g, of_text, is) (its_g, its_of_text, its) =
+    let same : its_g ≡ g = same_grammar text its_g g its_of_text of_text in
+    its ∙ ap (λ (h : GrammarParts). record { grammar = h; words = with_terminals old.words h.terminals }) same ∙ sym is
+shared_one old request one other is its = absurd is
 
--- where words change to the same, the session sees the same of itself
-own_one : (g : GrammarParts) (old : Listed) (request : Request) (words : Listed) (was one other : Option Own) → OwnChanges g old request words was one
-    → OwnChanges g old request words was other → other ≡ one
-own_one g old (requests.Unword form) words was one other (word, mid, named, rebased, is) (its_word, its_mid, its_named, its_rebased, its) =
+-- where what is shared changes to the same, the session sees the same of itself
+own_one : (old : Shared) (request : Request) (new : Shared) (was one other : Option Own) → OwnChanges old request new was one
+    → OwnChanges old request new was other → other ≡ one
+own_one old (requests.Unword form) new was one other (word, mid, named, rebased, is) (its_word, its_mid, its_named, its_rebased, its) =
     let same_word : its_word ≡ word = same_Some its_word word (sym its_named ∙ named) in
-    let same_mid = own_rebased_one g words was mid its_mid rebased its_rebased in
+    let same_mid = own_rebased_one new.grammar new.words was mid its_mid rebased its_rebased in
     its ∙ ap (λ (w : WordId). ended w its_mid) same_word ∙ ap (ended word) same_mid ∙ sym is
-own_one g old request words was one other is its = own_rebased_one g words was one other is its
+own_one old request new was one other is its = own_rebased_one new.grammar new.words was one other is its
 
 typed_one : (g : GrammarParts) (words : Listed) (text : List ℕ) (was one other : Option Own) → OwnTypes g words text was one → OwnTypes g words text was other
     → other ≡ one
@@ -123,32 +140,31 @@ typed_one g words text (Some own) one other (inr (free, is)) (inl (not_its, its)
 typed_one g words text (Some own) one other (inr (free, is)) (inr (its_free, its)) = its ∙ sym is
 
 -- after what is heard the same is seen
-pub goes_one : (g : GrammarParts) (old : Seen) (heard : apart.Heard) (one other : Seen) → Goes g old heard one → Goes g old heard other → other ≡ one
-goes_one g old (apart.opened form) one other (same, (word, named, is)) (its_same, (its_word, its_named, its)) =
+pub goes_one : (old : Seen) (heard : apart.Heard) (one other : Seen) → Goes old heard one → Goes old heard other → other ≡ one
+goes_one old (apart.opened form) one other (same, (word, named, is)) (its_same, (its_word, its_named, its)) =
     let same_word : its_word ≡ word = same_Some its_word word (sym its_named ∙ named) in
     seen_is other one (its_same ∙ sym same) (its ∙ ap (λ (w : WordId). Some (record { article = w; tokens = [] })) same_word ∙ sym is)
-goes_one g old (apart.typed text) one other is its = seen_is other one (its.0 ∙ sym is.0) (typed_one g old.words text old.own one.own other.own is.1 its.1)
-goes_one g old apart.stepped_back one other is its = seen_is other one (its.0 ∙ sym is.0) (its.1 ∙ sym is.1)
-goes_one g old apart.committed one other is its = seen_is other one (its.0 ∙ sym is.0) (its.1 ∙ sym is.1)
-goes_one g old apart.dropped one other is its = seen_is other one (its.0 ∙ sym is.0) (its.1 ∙ sym is.1)
-goes_one g old (apart.changed request) one other is its =
-    let same = words_one old.words request one.words other.words is.0 its.0 in
-    let its_own = subst (λ (words : Listed). OwnChanges g old.words request words old.own other.own) same its.1 in
-    seen_is other one same (own_one g old.words request one.words old.own one.own other.own is.1 its_own)
+goes_one old (apart.typed text) one other is its =
+    seen_is other one (its.0 ∙ sym is.0) (typed_one old.shared.grammar old.shared.words text old.own one.own other.own is.1 its.1)
+goes_one old apart.stepped_back one other is its = seen_is other one (its.0 ∙ sym is.0) (its.1 ∙ sym is.1)
+goes_one old apart.committed one other is its = seen_is other one (its.0 ∙ sym is.0) (its.1 ∙ sym is.1)
+goes_one old apart.dropped one other is its = seen_is other one (its.0 ∙ sym is.0) (its.1 ∙ sym is.1)
+goes_one old (apart.changed request) one other is its =
+    let same = shared_one old.shared request one.shared other.shared is.0 its.0 in
+    let its_own = subst (λ (shared : Shared). OwnChanges old.shared request shared old.own other.own) same its.1 in
+    seen_is other one same (own_one old.shared request one.shared old.own one.own other.own is.1 its_own)
 
 -- what is seen after all that is heard
-abbrev pub Follows : GrammarParts → Seen → List apart.Heard → Seen → Type 0
-Follows g old [] new = new ≡ old
-Follows g old (heard ∷ more) new = (mid : Seen) × Goes g old heard mid × Follows g mid more new
+abbrev pub Follows : Seen → List apart.Heard → Seen → Type 0
+Follows old [] new = new ≡ old
+Follows old (heard ∷ more) new = (mid : Seen) × Goes old heard mid × Follows mid more new
 
-pub follows_one : (g : GrammarParts) (old : Seen) (heard : List apart.Heard) (one other : Seen) → Follows g old heard one → Follows g old heard other
-    → other ≡ one
-follows_one g old [] one other is its = its ∙ sym is
-follows_one g old (heard ∷ more) one other (mid, goes, rest) (its_mid, its_goes, its_rest) =
-    follows_one g mid more one other rest (subst (λ (m : Seen). Follows g m more other) (goes_one g old heard mid its_mid goes its_goes) its_rest)
+pub follows_one : (old : Seen) (heard : List apart.Heard) (one other : Seen) → Follows old heard one → Follows old heard other → other ≡ one
+follows_one old [] one other is its = its ∙ sym is
+follows_one old (heard ∷ more) one other (mid, goes, rest) (its_mid, its_goes, its_rest) =
+    follows_one mid more one other rest (subst (λ (m : Seen). Follows m more other) (goes_one old heard mid its_mid goes its_goes) its_rest)
 
-pub follows_append : (g : GrammarParts) (old : Seen) (first : List apart.Heard) (mid : Seen) (second : List apart.Heard) (new : Seen) → Follows g old first mid
-    → Follows g mid second new
-    → Follows g old (first ++ second) new
-follows_append g old [] mid second new is rest = subst (λ (m : Seen). Follows g m second new) is rest
-follows_append g old (heard ∷ more) mid second new (next, goes, later) rest = (next, goes, follows_append g next more mid second new later rest)
+pub follows_append : (old : Seen) (first : List apart.Heard) (mid : Seen) (second : List apart.Heard) (new : Seen) → Follows old first mid
+    → Follows mid second new → Follows old (first ++ second) new
+follows_append old [] mid second new is rest = subst (λ (m : Seen). Follows m second new) is rest
+follows_append old (heard ∷ more) mid second new (next, goes, later) rest = (next, goes, follows_append next more mid second new later rest)

@@ -136,12 +136,17 @@ fits_rebased g words articles last (o ∷ old) (n ∷ new) rebased fit =
           numbered = subst (λ (i : SessionId). i.0 ≤ last) (sym is.number) f.numbered;
         }
 
+-- where the wiki gets another grammar and other words
+pub held_regrounded : (pages : parts.State) (g : GrammarParts) (words : Listed) (old new : List Session) (last : ℕ) → AreHeld pages old last
+    → AreKept g words new → AreRebased g words (all_plain old) (all_plain new) → AreHeld (record pages { grammar = g; words = words }) new last
+held_regrounded pages g words old new last held kept rebased =
+    held_by (record pages { grammar = g; words = words }) new last kept
+    (fits_rebased g words pages.articles last (all_plain old) (all_plain new) rebased (fits_each pages old last held))
+
 -- where words get other forms
 pub held_rebased : (pages : parts.State) (words : Listed) (old new : List Session) (last : ℕ) → AreHeld pages old last → AreKept pages.grammar words new
     → AreRebased pages.grammar words (all_plain old) (all_plain new) → AreHeld (record pages { words = words }) new last
-held_rebased pages words old new last held kept rebased =
-    held_by (record pages { words = words }) new last kept
-    (fits_rebased pages.grammar words pages.articles last (all_plain old) (all_plain new) rebased (fits_each pages old last held))
+held_rebased pages words = held_regrounded pages pages.grammar words
 
 -- where a word goes with its article, and the sessions on it end
 pub held_ended : (pages : parts.State) (words : Listed) (word : WordId) (old new : List Session) (rebased : List PlainSession) (last : ℕ)

@@ -9,7 +9,7 @@ use Rattle.wiki_core.specs.State.{first_state}
 use Rattle.wiki_core.specs.Step.{Step}
 use Rattle.wiki_core.specs.Holding.{Holding, first_holding}
 use Rattle.wiki_core.specs.Stepping.{KeptStep}
-use Rattle.wiki_core.specs.Journaled.{asked_of, changes_of, GivesUtf8, HasShortPlace, SpendsNone, NoneIsRaised, AreShort, AreUtf8, StandAlike, FitsLine}
+use Rattle.wiki_core.specs.Journaled.{asked_of, changes_of, GivesUtf8, HasShortPlace, GivesUnraised, SpendsNone, NoneIsRaised, AreUtf8, StandAlike, FitsLine}
 use Rattle.wiki_core.proofs.StandsLemmas.{stands_again}
 use Rattle.wiki_core.proofs.LineLemmas.{changes_fit}
 
@@ -34,6 +34,7 @@ pub stands_again_kept : (g : GrammarParts) → IsSound g → NoneIsRaised g.term
     (former exchanges again : List (Exchange Request Reply)) (last its_last : Holding)
     → Turns KeptStep (first_holding g budget) (former ++ exchanges) last → Turns KeptStep (first_holding g its_budget) again its_last
     → asked_of again ≡ asked_of former ++ changes_of exchanges → All GivesUtf8 (asked_of former) → All GivesUtf8 (asked_of exchanges)
+    → All GivesUnraised (asked_of former) → All GivesUnraised (asked_of exchanges)
     → SpendsNone former → SpendsNone exchanges → SpendsNone again → StandAlike last.state.pages its_last.state.pages
 stands_again_kept g sound apart budget its_budget former exchanges again last its_last turns its_turns =
     let parts = turns_part Step former exchanges (first_state g budget) last.state (plain_turns (former ++ exchanges) (first_holding g budget) last turns) in
@@ -41,8 +42,8 @@ stands_again_kept g sound apart budget its_budget former exchanges again last it
     (plain_turns again (first_holding g its_budget) its_last its_turns)
 
 -- Each change fits a short line, of such a run.
-pub changes_fit_kept : (g : GrammarParts) → IsSound g → NoneIsRaised g.terminals → AreShort g.terminals → AreUtf8 g.terminals → (budget : ℕ)
+pub changes_fit_kept : (g : GrammarParts) → IsSound g → NoneIsRaised g.terminals → AreUtf8 g.terminals → (budget : ℕ)
     (exchanges : List (Exchange Request Reply)) (last : Holding) → Turns KeptStep (first_holding g budget) exchanges last
-    → All GivesUtf8 (asked_of exchanges) → All HasShortPlace (asked_of exchanges) → All FitsLine (changes_of exchanges)
-changes_fit_kept g sound apart short utf8 budget exchanges last turns =
-    changes_fit g sound apart short utf8 budget exchanges last.state (plain_turns exchanges (first_holding g budget) last turns)
+    → All GivesUtf8 (asked_of exchanges) → All GivesUnraised (asked_of exchanges) → All HasShortPlace (asked_of exchanges) → All FitsLine (changes_of exchanges)
+changes_fit_kept g sound apart utf8 budget exchanges last turns =
+    changes_fit g sound apart utf8 budget exchanges last.state (plain_turns exchanges (first_holding g budget) last turns)

@@ -3,6 +3,7 @@ pub mod ApartLemmas
 pub mod BuiltInLemmas
 pub mod CommitLemmas
 pub mod FormLemmas
+pub mod GrammarLemmas
 pub mod HearLemmas
 pub mod HeldLemmas
 pub mod KeptRunLemmas

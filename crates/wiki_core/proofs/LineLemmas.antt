@@ -41,9 +41,9 @@ use Rattle.wiki_store.specs.Step.{with_inserted, with_replaced, sentence_with}
 use Rattle.wiki_store.specs.Appending.{with_appended}
 use Rattle.wiki_core.specs.State.{State, first_state}
 use Rattle.wiki_core.specs.Step.{Step, StepsSession}
-use Rattle.wiki_core.specs.Journaled.{changes_by, changes_of, asked_of, GivesUtf8, NoneIsRaised, AreShort, AreUtf8, HasShortPlace, IsPlainForm, ArePlainForms, IsPlainSentence, HasPlainTexts, FitsLine, ChangesFitLines}
-use Rattle.wiki_core.proofs.ApartLemmas.{open_step}
+use Rattle.wiki_core.specs.Journaled.{changes_by, changes_of, asked_of, GivesUtf8, GivesUnraised, NoneIsRaised, AreUtf8, HasShortPlace, IsPlainForm, ArePlainForms, IsPlainSentence, HasPlainTexts, FitsLine, ChangesFitLines}
 use Rattle.wiki_core.proofs.FormLemmas.{short_text}
+use Rattle.wiki_core.proofs.GrammarLemmas.{stays_utf8}
 use Rattle.wiki_core.proofs.ReadableLemmas.{canonical_owner}
 use Rattle.wiki_core.proofs.ReadyLemmas.{AreReady, form_there, shown_short, shown_utf8}
 use Rattle.wiki_core.proofs.OneStepLemmas as one
@@ -102,16 +102,11 @@ few_tokens old text free = by (cases_lt 40 (length (tokens_of old text)))
     by (inl many) = absurd (free (full_at limits.Tokens) (record { many = many; told = refl }))
     by (inr few) = few
 
--- terminals in UTF-8 of at most 64 bytes
-pub record ArePlain (g : GrammarParts) : Type 0 where
-  pub short : AreShort g.terminals
-  pub utf8 : AreUtf8 g.terminals
-
-sentence_plain : (old : parts.State) → AreReady old.grammar old.words → ArePlain old.grammar → (tokens : List (List ℕ)) → length tokens ≤ 40
+sentence_plain : (old : parts.State) → AreReady old.grammar old.words → AreUtf8 old.grammar.terminals → (tokens : List (List ℕ)) → length tokens ≤ 40
     → IsSentence old.grammar old.words tokens → IsPlainSentence (shown old.grammar.terminals tokens)
-sentence_plain old ready plain tokens few sentence =
-    let long = shown_short old.grammar old.words ready plain.short tokens sentence in
-    (shown_utf8 old.grammar old.words ready plain.utf8 tokens sentence, omega (arith, long, few))
+sentence_plain old ready terminals tokens few sentence =
+    let long = shown_short old.grammar old.words ready tokens sentence in
+    (shown_utf8 old.grammar old.words ready terminals tokens sentence, omega (arith, long, few))
 
 -- the place doesn't hang on the text
 same_place : (article : List ℕ) (given : Option ℕ) (text other : List ℕ) → HasShortPlace (requests.Add article given text)
@@ -123,7 +118,7 @@ same_place article (Some at) text other place = place
 fits : (change : Request) → HasPlainTexts change → HasShortPlace change → Each FitsLine (change ∷ [])
 fits change texts place = ((texts, place), tt)
 
-module _ (old : parts.State) (ready : AreReady old.grammar old.words) (plain : ArePlain old.grammar) where
+module _ (old : parts.State) (ready : AreReady old.grammar old.words) (terminals : AreUtf8 old.grammar.terminals) where
   does_fit : (request : Request) (reply : Reply) (new : parts.State) → GivesUtf8 request → HasShortPlace request → store.IsFree old request
       → store.Does old request reply new → Each FitsLine (changes_by request reply)
   does_fit (requests.Word kind texts) reply new utf8 place free x =
@@ -140,11 +135,13 @@ module _ (old : parts.State) (ready : AreReady old.grammar old.words) (plain : A
   does_fit (requests.Unword text) reply new utf8 place free x =
       subst (λ (r : Reply). Each FitsLine (changes_by (requests.Unword text) r)) (sym x.answer)
       (fits (requests.Unword text) (named_plain old text x.word ready x.named) tt)
+  does_fit (requests.Grammar text) reply new utf8 place free x =
+      subst (λ (r : Reply). Each FitsLine (changes_by (requests.Grammar text) r)) (sym x.answer) (fits (requests.Grammar text) utf8 tt)
   does_fit (requests.Add article given text) reply new utf8 place free x =
       subst (λ (r : Reply). Each FitsLine (changes_by (requests.Add article given text) r)) (sym x.answer)
       (fits (requests.Add article given (shown old.grammar.terminals (tokens_of old text))) (
         named_plain old article x.word ready x.named,
-        sentence_plain old ready plain (tokens_of old text)
+        sentence_plain old ready terminals (tokens_of old text)
             (few_tokens old text (free_fourth (NamesNoWord old article) (IsPastEnd old article given) (IsFullOfSentences old) (HasTooManyTokens old text)
             (IsAtLastRevision old article ∷ HasNoDerivation old text ∷ []) free))
             (status_sentence (with_inserted old x.word x.place (sentence_with old text Asserted)) (tokens_of old text) x.status x.gets),
@@ -153,7 +150,7 @@ module _ (old : parts.State) (ready : AreReady old.grammar old.words) (plain : A
       subst (λ (r : Reply). Each FitsLine (changes_by (requests.Edit article at text) r)) (sym x.answer)
       (fits (requests.Edit article at (shown old.grammar.terminals (tokens_of old text))) (
         named_plain old article x.word ready x.named,
-        sentence_plain old ready plain (tokens_of old text)
+        sentence_plain old ready terminals (tokens_of old text)
             (few_tokens old text (free_third (NamesNoWord old article) (HasNoSentenceAt old article at) (HasTooManyTokens old text)
             (IsAtLastRevision old article ∷ HasNoDerivation old text ∷ []) free))
             (status_sentence (with_replaced old x.word at (sentence_with old text Asserted)) (tokens_of old text) x.status x.gets),
@@ -183,7 +180,7 @@ module _ (old : parts.State) (ready : AreReady old.grammar old.words) (plain : A
       by (inl refused) = subst (λ (r : Reply). Each FitsLine (changes_by request r)) (sym refused.1) tt
       by (inr done) = does_fit request reply new utf8 place done.0 done.1
 
-module _ (old : State) (ready : IsReady old) (plain : ArePlain old.pages.grammar) (reply : Reply) (new : State) where
+module _ (old : State) (ready : IsReady old) (terminals : AreUtf8 old.pages.grammar.terminals) (reply : Reply) (new : State) where
   session_does : (request : Request) → whole.IsDone old request reply new → Each FitsLine (changes_by request reply)
   session_does (requests.Begin article) (free, x) = subst (λ (r : Reply). Each FitsLine (changes_by (requests.Begin article) r)) (sym x.answer) tt
   session_does (requests.Put session text) (free, x) =
@@ -195,7 +192,7 @@ module _ (old : State) (ready : IsReady old) (plain : ArePlain old.pages.grammar
       (fits (requests.Add x.form None (shown old.pages.grammar.terminals x.session.tokens)) (
         named_plain old.pages x.form x.session.article ready.pages
             (canonical_owner old.pages.words.terminals old.pages.words.live ready.pages.readable x.session.article x.form x.spelled),
-        sentence_plain old.pages ready.pages plain x.session.tokens (session_short old.sessions _ x.session ready.short x.named)
+        sentence_plain old.pages ready.pages terminals x.session.tokens (session_short old.sessions _ x.session ready.short x.named)
             (status_sentence (with_appended old.pages x.session.article x.session.tokens Asserted) x.session.tokens x.status x.gets),
       ) tt)
   session_does (requests.Refresh session) (free, x) =
@@ -219,7 +216,7 @@ module _ (old : State) (ready : IsReady old) (plain : ArePlain old.pages.grammar
   step_fits (requests.Commit session) utf8 place step = session_steps (requests.Commit session) step
   step_fits (requests.Refresh session) utf8 place step = session_steps (requests.Refresh session) step
   step_fits (requests.Drop session) utf8 place step = session_steps (requests.Drop session) step
-  step_fits request utf8 place step = pages_fit old.pages ready.pages plain request reply new.pages utf8 place step.pages
+  step_fits request utf8 place step = pages_fit old.pages ready.pages terminals request reply new.pages utf8 place step.pages
 
 -- ---- runs
 
@@ -227,22 +224,25 @@ pub all_from_each : (requests : List Request) → Each FitsLine requests → All
 all_from_each [] each = All-nil FitsLine
 all_from_each (request ∷ requests) each = All-cons FitsLine request requests each.0 (all_from_each requests each.1)
 
-run_fits : (exchanges : List (Exchange Request Reply)) (g : GrammarParts) (first last : State) → IsReady first → first.pages.grammar ≡ g → ArePlain g
-    → Turns Step first exchanges last → All GivesUtf8 (asked_of exchanges) → All HasShortPlace (asked_of exchanges) → All FitsLine (changes_of exchanges)
-run_fits [] g first last ready over plain turns utf8 places = All-nil FitsLine
-run_fits (no_request ∷ exchanges) g first last ready over plain (next, is, turns) utf8 places =
-    run_fits exchanges g next last (subst IsReady (sym is) ready) (ap (λ (s : State). s.pages.grammar) is ∙ over) plain turns utf8 places
-run_fits (answered request reply ∷ exchanges) g first last ready over plain (next, step, turns) utf8 places =
+run_fits : (exchanges : List (Exchange Request Reply)) (first last : State) → IsReady first → AreUtf8 first.pages.grammar.terminals
+    → Turns Step first exchanges last → All GivesUtf8 (asked_of exchanges) → All GivesUnraised (asked_of exchanges) → All HasShortPlace (asked_of exchanges)
+    → All FitsLine (changes_of exchanges)
+run_fits [] first last ready terminals turns utf8 unraised places = All-nil FitsLine
+run_fits (no_request ∷ exchanges) first last ready terminals (next, is, turns) utf8 unraised places =
+    run_fits exchanges next last (subst IsReady (sym is) ready) (subst (λ (s : State). AreUtf8 s.pages.grammar.terminals) (sym is) terminals) turns
+    utf8 unraised places
+run_fits (answered request reply ∷ exchanges) first last ready terminals (next, step, turns) utf8 unraised places =
     let own_utf8 = All-head GivesUtf8 request (asked_of exchanges) utf8 in
     let own_place = All-head HasShortPlace request (asked_of exchanges) places in
     All-append FitsLine (changes_by request reply) (changes_of exchanges)
-    (all_from_each (changes_by request reply)
-    (step_fits first ready (subst ArePlain (sym over) plain) reply next request own_utf8 own_place step))
-    (run_fits exchanges g next last (stays_ready first next reply ready request own_utf8 step)
-    ((open_step first.pages.grammar first next 0 refl ready.apt (omega arith) request reply step).grammar ∙ over) plain turns
-    (All-tail GivesUtf8 request (asked_of exchanges) utf8) (All-tail HasShortPlace request (asked_of exchanges) places))
+    (all_from_each (changes_by request reply) (step_fits first ready terminals reply next request own_utf8 own_place step))
+    (run_fits exchanges next last
+    (stays_ready first next reply ready request own_utf8 (All-head GivesUnraised request (asked_of exchanges) unraised) step)
+    (stays_utf8 first next reply request own_utf8 terminals step) turns
+    (All-tail GivesUtf8 request (asked_of exchanges) utf8) (All-tail GivesUnraised request (asked_of exchanges) unraised)
+    (All-tail HasShortPlace request (asked_of exchanges) places))
 
 -- Each change of a run fits a short line, however long the text was that was sent.
-pub changes_fit : (g : GrammarParts) → IsSound g → NoneIsRaised g.terminals → AreShort g.terminals → AreUtf8 g.terminals → ChangesFitLines g
-changes_fit g sound apart short utf8 budget exchanges last turns given places =
-    run_fits exchanges g (first_state g budget) last (first_ready g budget sound apart) refl (record { short = short; utf8 = utf8 }) turns given places
+pub changes_fit : (g : GrammarParts) → IsSound g → NoneIsRaised g.terminals → AreUtf8 g.terminals → ChangesFitLines g
+changes_fit g sound apart utf8 budget exchanges last turns given unraised places =
+    run_fits exchanges (first_state g budget) last (first_ready g budget sound apart) utf8 turns given unraised places

@@ -5,7 +5,9 @@ use Rattle.std.proofs.lemmas.Option.{same_Some}
 use Rattle.wiki_base.specs.declared.numbers.WordId.{WordId}
 use Rattle.lexicon.specs.declared.kinds.Kind.{Kind}
 use Rattle.lexicon.specs.declared.kinds.Forms.{Forms}
-use Rattle.lexicon.specs.Words.{with_forms, without_word, forms_of}
+use Rattle.codeco_terms.specs.GrammarParts.{GrammarParts}
+use Rattle.codeco_reader.proofs.OneGrammar.{same_grammar}
+use Rattle.lexicon.specs.Words.{with_forms, without_word, with_terminals, forms_of}
 use Rattle.derivation_trees.specs.Cutting.{shown}
 use Rattle.logic_terms.specs.Concept.{Claim}
 use Rattle.reasoner.specs.Verdicts.{HaveNoModel}
@@ -24,8 +26,8 @@ use Rattle.wiki_parts.specs.Parsing.{tokens_of}
 use Rattle.wiki_parts.specs.Meanings.{Meaning, stating, outside, asking, asking_outside}
 use Rattle.wiki_parts.specs.Knowledge.{HaveModel, IsAllowed, IsVerdict, IsStatusOf, GetStatus}
 use Rattle.wiki_parts.proofs.MeaningLemmas.{means_one, knows_one}
-use Rattle.wiki_parts.specs.Refusing.{FirstOf, NamesNoWord, IsBadReword, BreaksSentence, IsInUse, TellsPlace, HasNoSentenceAt, IsPastEnd, IsFullOfSentences, HasTooManyTokens, IsAtLastRevision, HasNoDerivation, HasBadStatus, may_retract, may_reassert}
-use Rattle.wiki_store.specs.Step.{Step, Refuses, IsFree, Does, AddsWord, RewordsWord, RemovesWord, AddsSentence, EditsSentence, RemovesSentence, RetractsSentence, ReassertsSentence, with_inserted, with_replaced, with_taken, with_marked, sentence_with}
+use Rattle.wiki_parts.specs.Refusing.{FirstOf, NamesNoWord, IsBadReword, BreaksSentence, IsInUse, IsNoGrammar, IsBare, HasForm, BreaksByGrammar, TellsPlace, HasNoSentenceAt, IsPastEnd, IsFullOfSentences, HasTooManyTokens, IsAtLastRevision, HasNoDerivation, HasBadStatus, may_retract, may_reassert}
+use Rattle.wiki_store.specs.Step.{Step, Refuses, IsFree, Does, AddsWord, RewordsWord, RemovesWord, TakesGrammar, AddsSentence, EditsSentence, RemovesSentence, RetractsSentence, ReassertsSentence, with_inserted, with_replaced, with_taken, with_marked, sentence_with}
 use Rattle.wiki_core.specs.Journaled.{is_spent, tells_spent}
 
 -- the same wiki, where a search may take so many steps
@@ -126,6 +128,15 @@ module _ (old : State) (budget : ℕ) (said its : Reply) (new its_new : State) w
             ∙ ap (λ (f : Forms). record old { budget = budget; words = with_forms old.words x.word (forms_given f.kind texts) }) forms),
       )
 
+  grammar_alike : (text : List ℕ) → TakesGrammar old text said new → TakesGrammar (at_budget old budget) text its its_new
+      → (its ≡ said) × (its_new ≡ at_budget new budget)
+  grammar_alike text x y =
+      let same : y.g ≡ x.g = same_grammar text y.g x.g y.is x.is in (
+        y.answer ∙ sym x.answer,
+        alike budget _ new its_new x.after
+            (y.after ∙ ap (λ (g : GrammarParts). record old { grammar = g; budget = budget; words = with_terminals old.words g.terminals }) same),
+      )
+
   unword_alike : (text : List ℕ) → RemovesWord old text said new → RemovesWord (at_budget old budget) text its its_new
       → (its ≡ said) × (its_new ≡ at_budget new budget)
   unword_alike text x y =
@@ -214,6 +225,7 @@ module _ (old : State) (budget : ℕ) (said its : Reply) (new its_new : State) w
   does_alike (requests.Parse text) x y kept also = (tt, alike budget old new its_new x.after y.after)
   does_alike (requests.Reword text texts) x y kept also = reword_alike text texts x y
   does_alike (requests.Unword text) x y kept also = unword_alike text x y
+  does_alike (requests.Grammar text) x y kept also = grammar_alike text x y
   does_alike (requests.Add article given text) x y kept also = add_alike article given text x y kept also
   does_alike (requests.Edit article place text) x y kept also = edit_alike article place text x y kept also
   does_alike (requests.Remove article place) x y kept also = remove_alike article place x y
@@ -260,6 +272,24 @@ breaks text texts state budget refusal h = record {
   named = h.named;
   old = h.old;
   of_word = h.of_word;
+  first = h.first;
+  breaks = h.breaks;
+  told = told_at state budget _ h.first.word h.first.place refusal h.told;
+}
+
+no_grammar : (text : List ℕ) → IsBlind (λ state. IsNoGrammar text)
+no_grammar text state budget refusal h = h
+
+bare : (text : List ℕ) → IsBlind (λ state. IsBare text)
+bare text state budget refusal h = h
+
+has_form : (text : List ℕ) → IsBlind (λ state. HasForm state text)
+has_form text state budget refusal h = record { g = h.g; is = h.is; told = h.told }
+
+breaks_by : (text : List ℕ) → IsBlind (λ state. BreaksByGrammar state text)
+breaks_by text state budget refusal h = record {
+  g = h.g;
+  is = h.is;
   first = h.first;
   breaks = h.breaks;
   told = told_at state budget _ h.first.word h.first.place refusal h.told;
@@ -326,6 +356,9 @@ module _ (old : State) (budget : ℕ) where
   refuses_alike (requests.Reword text texts) refusal h =
       first_blind ((λ s. NamesNoWord s text) ∷ (λ s. IsBadReword s text texts) ∷ (λ s. BreaksSentence s text texts) ∷ [])
       (no_word text, (bad_reword text texts, (breaks text texts, tt))) old budget refusal h
+  refuses_alike (requests.Grammar text) refusal h =
+      first_blind ((λ s. IsNoGrammar text) ∷ (λ s. IsBare text) ∷ (λ s. HasForm s text) ∷ (λ s. BreaksByGrammar s text) ∷ [])
+      (no_grammar text, (bare text, (has_form text, (breaks_by text, tt)))) old budget refusal h
   refuses_alike (requests.Unword text) refusal h =
       first_blind ((λ s. NamesNoWord s text) ∷ (λ s. IsInUse s text) ∷ []) (no_word text, (in_use text, tt)) old budget refusal h
   refuses_alike (requests.Add article given text) refusal h =

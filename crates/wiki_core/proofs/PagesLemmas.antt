@@ -85,6 +85,7 @@ does_keeps old new requests.Words reply no_words does = keeps_same old new does.
 does_keeps old new (requests.Parse text) reply no_words does = keeps_same old new does.after
 does_keeps old new (requests.Reword form forms) reply no_words does = absurd (false≢true (sym no_words))
 does_keeps old new (requests.Unword form) reply no_words does = absurd (false≢true (sym no_words))
+does_keeps old new (requests.Grammar text) reply no_words does = absurd (false≢true (sym no_words))
 does_keeps old new (requests.Add article given text) reply no_words does = keeps_changed old new does.word _ does.after
 does_keeps old new (requests.Edit article place text) reply no_words does = keeps_changed old new does.word _ does.after
 does_keeps old new (requests.Remove article place) reply no_words does = keeps_changed old new does.word _ does.after

@@ -3,7 +3,7 @@ use Rattle.std.proofs.Common.{◌≡◌, ℕ, zero, suc, ◌==◌, Bool, true, f
 use Rattle.std.specs.Option.{option_or, option_and_then, option_map_or}
 use Rattle.std.specs.Str.{IsUtf8, bytes_eq}
 use Rattle.std.specs.List.{slice_get}
-use Rattle.std.specs.Prelude.{if◌then◌else◌}
+use Rattle.std.specs.Prelude.{if◌then◌else◌, ⊤}
 use Rattle.std.proofs.lemmas.Bool.{false≢true, eqb-true}
 use Rattle.std.proofs.lemmas.Option.{none-some, same_Some}
 use Rattle.std.proofs.lemmas.Slice.Eq.{bytes_eq-Decides}
@@ -18,7 +18,7 @@ use Rattle.lexicon.specs.declared.words.LexLimit.TheVariants as bounds
 use Rattle.lexicon.specs.declared.words.TheConstants.{MOST_WORDS, LAST_NUMBER}
 use Rattle.lexicon.specs.Kinds.{canonical_place}
 use Rattle.lexicon.specs.Terminals.{is_reserved}
-use Rattle.lexicon.specs.Words.{Listed, is_among, has_form, has_number, owner, forms_of, canonical_form_of, others, next_word, with_word, with_forms, first_taken, first_reserved, fullness, forms_refusal, add_refusal, reword_refusal}
+use Rattle.lexicon.specs.Words.{Listed, is_among, has_form, has_number, owner, forms_of, canonical_form_of, others, next_word, with_word, with_forms, first_taken, first_reserved, fullness, forms_refusal, add_refusal, reword_refusal, reground_refusal}
 use Rattle.lexicon.proofs.Adding.{free_texts, unreserved_texts}
 use Rattle.lexicon.proofs.Owners.{owner_lives, owner-add_refusal, add_refusal_names_none}
 use Rattle.derivations.specs.Among.{Among}
@@ -363,3 +363,57 @@ readable_reword words id old texts of_word utf8 none are =
             → is_told (option_map_or (λ _. forms_refusal (others words.live id) words.terminals forms) o (Some (faults.NoWord id))) ≡ true
         by None none = absurd (false≢true none)
         by (Some old) there = told_forms (others words.live id) words.terminals forms
+
+-- ---- words beside other terminals
+
+told_reground : (live : List Word) (terminals : List (List ℕ)) → is_told (reground_refusal live terminals) ≡ true
+told_reground [] terminals = refl
+told_reground (word ∷ live) terminals =
+    told_either (first_reserved terminals word.forms.texts) (reground_refusal live terminals) (told_reserved terminals word.forms.texts)
+    (told_reground live terminals)
+
+-- the fault, if there is one, is that a form is reserved
+abbrev IsReserved : Option LexFault → Type 0
+IsReserved None = ⊤
+IsReserved (Some (faults.Reserved text)) = ⊤
+IsReserved (Some fault) = ⊥
+
+reserved_either : (a b : Option LexFault) → IsReserved a → IsReserved b → IsReserved (option_or a b)
+reserved_either None b one two = two
+reserved_either (Some fault) b one two = one
+
+reserved_forms : (terminals texts : List (List ℕ)) → IsReserved (first_reserved terminals texts)
+reserved_forms terminals [] = tt
+reserved_forms terminals (text ∷ texts) = by (is_reserved terminals text) (reserved_forms terminals texts)
+  where
+    by : (b : Bool) → IsReserved (first_reserved terminals texts) → IsReserved (cond b (Some (faults.Reserved text)) (first_reserved terminals texts))
+    by true rest = tt
+    by false rest = rest
+
+reserved_words : (live : List Word) (terminals : List (List ℕ)) → IsReserved (reground_refusal live terminals)
+reserved_words [] terminals = tt
+reserved_words (word ∷ live) terminals =
+    reserved_either (first_reserved terminals word.forms.texts) (reground_refusal live terminals) (reserved_forms terminals word.forms.texts)
+    (reserved_words live terminals)
+
+unreserved_words : (live : List Word) (terminals : List (List ℕ)) → reground_refusal live terminals ≡ None → (word : Word) → Among live word
+    → (text : List ℕ) → has_form text word ≡ true → is_reserved terminals text ≡ false
+unreserved_words [] terminals none word there text has = absurd there
+unreserved_words (first ∷ live) terminals none word there text has =
+    let both = option_or-none (first_reserved terminals first.forms.texts) (reground_refusal live terminals) none in
+    by there both.0 (λ later. unreserved_words live terminals both.1 word later text has)
+  where
+    by : Among (first ∷ live) word → first_reserved terminals first.forms.texts ≡ None → (Among live word → is_reserved terminals text ≡ false)
+        → is_reserved terminals text ≡ false
+    by (inl same) free rest = unreserved_texts terminals first.forms.texts free text (ap (has_form text) (sym same) ∙ has)
+    by (inr later) free rest = rest later
+
+-- words of which no form is reserved by other terminals are readable beside them
+pub readable_beside : (words : Listed) (terminals : List (List ℕ)) → lexicon_refusal words (reground_refusal words.live terminals) ≡ None
+    → AreReadable words.terminals words.live → AreReadable terminals words.live
+readable_beside words terminals none are =
+    let fault = reground_refusal words.live terminals in
+    let free = none_told words fault (told_reground words.live terminals)
+    (λ text id is. absurd (subst IsReserved is (reserved_words words.live terminals)))
+    (λ id is. subst IsReserved is (reserved_words words.live terminals)) none in
+    record { forms = are.forms; free = unreserved_words words.live terminals free; apart = are.apart }

@@ -22,8 +22,9 @@ use Rattle.derivation_trees.proofs.PieceLemmas.{Whole, whole_from_parts, cut_sho
 use Rattle.derivations.proofs.Members.{all_among}
 use Rattle.derivations.proofs.CutLemmas.{Passing, any_passes, passes_any}
 use Rattle.derivations.proofs.TokenLemmas.{terminal_token}
-use Rattle.wiki_core.specs.Journaled.{NoneIsRaised, AreShort, AreUtf8}
+use Rattle.wiki_core.specs.Journaled.{NoneIsRaised, AreUtf8}
 use Rattle.wiki_core.proofs.FormLemmas.{IsForm, kept_by_length}
+use Rattle.wiki_core.proofs.GrammarLemmas.{terminal_short}
 use Rattle.wiki_core.proofs.ReadableLemmas.{AreReadable, owner_there}
 use Rattle.wiki_core.proofs.KnownTokens.{IsTerminalOrForm, sentence_known}
 
@@ -114,10 +115,10 @@ shown_again g words ready tokens sentence =
 
 -- ---- how long what shows a sentence is
 
-short_token : (g : GrammarParts) (words : Listed) → AreReady g words → AreShort g.terminals → (token : List ℕ) → IsTerminalOrForm g words token
+short_token : (g : GrammarParts) (words : Listed) → AreReady g words → (token : List ℕ) → IsTerminalOrForm g words token
     → length token ≤ 64
-short_token g words ready short token (inl terminal) = short token terminal
-short_token g words ready short token (inr (word, owned)) = (form_there g words ready token word owned).short
+short_token g words ready token (inl terminal) = terminal_short g ready.sound token terminal
+short_token g words ready token (inr (word, owned)) = (form_there g words ready token word owned).short
 
 gap_short : (token : List ℕ) (tokens : List (List ℕ)) → length (gap token tokens) ≤ 1
 gap_short token tokens = by ((length tokens == 0) && is_mark_token token)
@@ -147,9 +148,9 @@ first_length terminals token = by (is_terminal terminals token)
     by false = refl
 
 -- What shows a sentence has at most 65 bytes for each token.
-pub shown_short : (g : GrammarParts) (words : Listed) → AreReady g words → AreShort g.terminals → (tokens : List (List ℕ)) → IsSentence g words tokens
+pub shown_short : (g : GrammarParts) (words : Listed) → AreReady g words → (tokens : List (List ℕ)) → IsSentence g words tokens
     → length (shown g.terminals tokens) ≤ 65 * length tokens
-shown_short g words ready short tokens sentence = by tokens (λ k token at. short_token g words ready short token (known_at g words tokens sentence k token at))
+shown_short g words ready tokens sentence = by tokens (λ k token at. short_token g words ready token (known_at g words tokens sentence k token at))
   where
     by : (ts : List (List ℕ)) → ((k : ℕ) (token : List ℕ) → slice_get ts k ≡ Some token → length token ≤ 64) → length (shown g.terminals ts) ≤ 65 * length ts
     by [] each = omega arith

@@ -4,6 +4,7 @@ use Rattle.std.proofs.lemmas.Bool.{false≢true, eq-eqb}
 use Rattle.std.proofs.lemmas.Option.{none-some, same_Some}
 use Rattle.wiki_base.specs.declared.tokens.TheConstants.{MOST_TOKENS}
 use Rattle.codeco_terms.specs.GrammarParts.{GrammarParts}
+use Rattle.lexicon.specs.Words.{Listed}
 use Rattle.lexicon.specs.declared.kinds.Kind.{Kind}
 use Rattle.editor.specs.Editing.{typed, IsInMenu}
 use Rattle.sessions.specs.Sessions.{PlainSession, has_number, session_of, with_change, with_tokens, with_revision, new_session, without_session, is_on, AreRebased}
@@ -26,54 +27,59 @@ use Rattle.wiki_core.specs.Apart as apart
 use Rattle.wiki_core.specs.Keeping.{changes_words}
 use Rattle.wiki_core.proofs.KeyLaws.{changed_at, find_changed}
 use Rattle.wiki_core.proofs.PagesLemmas.{KeepsWords, keeps_same, step_keeps}
-use Rattle.wiki_core.proofs.SeenLemmas.{Own, own, own_of, RiseTo, rise_filter, rise_append, rise_changed, rise_rebased, changed_own, changed_other, without_own, without_other, opened_own, opened_other, rebased_own, ended_own}
-use Rattle.wiki_core.proofs.HearLemmas.{Seen, WordsChange, OwnChanges, IsNotTyped, OwnTypes, own_back, own_emptied, Goes, seen_is, Follows}
+use Rattle.wiki_core.proofs.SeenLemmas.{Own, RebasesOwn, own, own_of, RiseTo, rise_filter, rise_append, rise_changed, rise_rebased, changed_own, changed_other, without_own, without_other, opened_own, opened_other, rebased_own, ended_own}
+use Rattle.wiki_core.proofs.HearLemmas.{Shared, Seen, SharedChange, OwnChanges, IsNotTyped, OwnTypes, own_back, own_emptied, Goes, seen_is, Follows}
+
+-- what sessions share of a wiki
+abbrev pub shared : parts.State → Shared
+shared pages = record { grammar = pages.grammar; words = pages.words }
 
 -- what the session with the number sees of a wiki
 abbrev pub seen : State → ℕ → Seen
-seen state number = record { words = state.pages.words; own = own_of state.sessions number }
+seen state number = record { shared = shared state.pages; own = own_of state.sessions number }
 
 -- the sessions' numbers rise up to the last one that was given
 abbrev pub IsApt : State → Type 0
 IsApt state = RiseTo 0 state.last state.sessions
 
--- a step over the grammar after which the numbers are apt still, and by which the session with the number hears this
-pub record Shows (g : GrammarParts) (old new : State) (number : ℕ) (heard : List apart.Heard) : Type 0 where
-  pub grammar : new.pages.grammar ≡ g
+-- a step after which the numbers are apt still, and by which the session with the number hears this
+pub record Shows (old new : State) (number : ℕ) (heard : List apart.Heard) : Type 0 where
   pub apt : IsApt new
   pub later : old.last ≤ new.last
-  pub follows : Follows g (seen old number) heard (seen new number)
+  pub follows : Follows (seen old number) heard (seen new number)
+
+-- what is shared where words and the grammar are kept
+pub shared_is : (old new : parts.State) → new.grammar ≡ old.grammar → new.words ≡ old.words → shared new ≡ shared old
+shared_is old new grammar words = ap (λ (g : GrammarParts). record { grammar = g; words = new.words }) grammar
+    ∙ ap (λ (listed : Listed). record { grammar = old.grammar; words = listed }) words
 
 -- nothing changes
-pub shows_same : (g : GrammarParts) (old new : State) (number : ℕ) → old.pages.grammar ≡ g → IsApt old → new ≡ old → Shows g old new number []
-shows_same g old new number over apt same =
-    subst (λ (s : State). Shows g old s number []) (sym same) (record { grammar = over; apt = apt; later = omega arith; follows = refl })
+pub shows_same : (old new : State) (number : ℕ) → IsApt old → new ≡ old → Shows old new number []
+shows_same old new number apt same =
+    subst (λ (s : State). Shows old s number []) (sym same) (record { apt = apt; later = omega arith; follows = refl })
 
 -- no words and no sessions change
-shows_pages : (g : GrammarParts) (old new : State) (number : ℕ) → old.pages.grammar ≡ g → IsApt old → KeepsWords old.pages new.pages
-    → new.sessions ≡ old.sessions → new.last ≡ old.last
-    → Shows g old new number []
-shows_pages g old new number over apt keeps same last = record {
-  grammar = keeps.grammar ∙ over;
+shows_pages : (old new : State) (number : ℕ) → IsApt old → KeepsWords old.pages new.pages → new.sessions ≡ old.sessions → new.last ≡ old.last
+    → Shows old new number []
+shows_pages old new number apt keeps same last = record {
   apt = subst (λ (n : ℕ). RiseTo 0 n new.sessions) (sym last) (subst (RiseTo 0 old.last) (sym same) apt);
   later = omega (arith, last);
-  follows = seen_is (seen new number) (seen old number) keeps.words (ap (λ (sessions : List PlainSession). own_of sessions number) same);
+  follows = seen_is (seen new number) (seen old number) (shared_is old.pages new.pages keeps.grammar keeps.words)
+      (ap (λ (sessions : List PlainSession). own_of sessions number) same);
 }
 
--- words change, and each session is rebased
-shows_words : (g : GrammarParts) (old new : State) (number : ℕ) (request : Request) → old.pages.grammar ≡ g → IsApt old → new.pages.grammar ≡ old.pages.grammar
-    → new.last ≡ old.last
-    → RiseTo 0 old.last new.sessions → WordsChange old.pages.words request new.pages.words
-    → OwnChanges g old.pages.words request new.pages.words (own_of old.sessions number) (own_of new.sessions number)
-    → Shows g old new number (apart.changed request ∷ [])
-shows_words g old new number request over apt same last rise words changes = record {
-  grammar = same ∙ over;
+-- words or the grammar change, and each session is rebased
+shows_words : (old new : State) (number : ℕ) (request : Request) → IsApt old → new.last ≡ old.last → RiseTo 0 old.last new.sessions
+    → SharedChange (shared old.pages) request (shared new.pages)
+    → OwnChanges (shared old.pages) request (shared new.pages) (own_of old.sessions number) (own_of new.sessions number)
+    → Shows old new number (apart.changed request ∷ [])
+shows_words old new number request apt last rise change changes = record {
   apt = subst (λ (n : ℕ). RiseTo 0 n new.sessions) (sym last) rise;
   later = omega (arith, last);
-  follows = (seen new number, (words, changes), refl);
+  follows = (seen new number, (change, changes), refl);
 }
 
--- which replies tell that words have changed, and that a commit was accepted
+-- which replies tell that words or the grammar have changed, that a session was opened, and that a commit was accepted
 abbrev pub tells_word : Reply → Bool
 tells_word replies.Word = true
 tells_word reply = false
@@ -85,6 +91,10 @@ tells_reword reply = false
 abbrev pub tells_unword : Reply → Bool
 tells_unword replies.Unword = true
 tells_unword reply = false
+
+abbrev pub tells_grammar : Reply → Bool
+tells_grammar replies.Grammar = true
+tells_grammar reply = false
 
 abbrev pub tells_begin : Reply → Bool
 tells_begin (replies.Begin session) = true
@@ -99,85 +109,90 @@ abbrev pub session_told : Reply → ℕ
 session_told (replies.Begin session) = session
 session_told reply = 0
 
-module _ (g : GrammarParts) (old new : State) (number : ℕ) (over : old.pages.grammar ≡ g) (apt : IsApt old) where
-  -- a rebased list of sessions, by the grammar itself
-  by_grammar : (sessions : List PlainSession) → new.pages.grammar ≡ old.pages.grammar → AreRebasedTo new.pages old.sessions sessions
-      → AreRebased g new.pages.words old.sessions sessions
-  by_grammar sessions same rebased = subst (λ (h : GrammarParts). AreRebased h new.pages.words old.sessions sessions) (same ∙ over) rebased
+module _ (old new : State) (number : ℕ) (apt : IsApt old) where
+  -- words or the grammar change, and each session is rebased to what is shared then
+  rebased_shows : (request : Request) → new.last ≡ old.last → AreRebasedTo new.pages old.sessions new.sessions
+      → SharedChange (shared old.pages) request (shared new.pages)
+      → (RebasesOwn new.pages.grammar new.pages.words (own_of old.sessions number) (own_of new.sessions number)
+      → OwnChanges (shared old.pages) request (shared new.pages) (own_of old.sessions number) (own_of new.sessions number))
+      → Shows old new number (apart.changed request ∷ [])
+  rebased_shows request last rebased change own_changes =
+      shows_words old new number request apt last
+      (rise_rebased new.pages.grammar new.pages.words 0 old.last old.sessions new.sessions rebased apt) change
+      (own_changes (rebased_own new.pages.grammar new.pages.words old.sessions new.sessions number rebased))
 
   pub word_shows : (kind : Kind) (forms : List (List ℕ)) (reply : Reply) → StepsPages old (requests.Word kind forms) reply new
-      → Shows g old new number (apart.heard_of_words (answered (requests.Word kind forms) reply))
+      → Shows old new number (apart.heard_of_words (answered (requests.Word kind forms) reply))
   word_shows kind forms (replies.Refused refusal) step =
-      shows_pages g old new number over apt (keeps_same old.pages new.pages step.pages.1) step.sessions step.last
+      shows_pages old new number apt (keeps_same old.pages new.pages step.pages.1) step.sessions step.last
   word_shows kind forms replies.Word step =
-      let same = ap (λ (s : parts.State). s.grammar) step.pages.1.after in
-      let rebased = by_grammar new.sessions same step.sessions in
-      shows_words g old new number (requests.Word kind forms) over apt same step.last
-      (rise_rebased g new.pages.words 0 old.last old.sessions new.sessions rebased apt)
-      (ap (λ (s : parts.State). s.words) step.pages.1.after) (rebased_own g new.pages.words old.sessions new.sessions number rebased)
+      rebased_shows (requests.Word kind forms) step.last step.sessions (ap shared step.pages.1.after) (λ rebases. rebases)
   word_shows kind forms reply step = absurd (false≢true (ap tells_word step.pages.1.answer))
 
   pub reword_shows : (form : List ℕ) (forms : List (List ℕ)) (reply : Reply) → StepsPages old (requests.Reword form forms) reply new
-      → Shows g old new number (apart.heard_of_words (answered (requests.Reword form forms) reply))
+      → Shows old new number (apart.heard_of_words (answered (requests.Reword form forms) reply))
   reword_shows form forms (replies.Refused refusal) step =
-      shows_pages g old new number over apt (keeps_same old.pages new.pages step.pages.1) step.sessions step.last
+      shows_pages old new number apt (keeps_same old.pages new.pages step.pages.1) step.sessions step.last
   reword_shows form forms replies.Reword step =
       let does = step.pages.1 in
-      let same = ap (λ (s : parts.State). s.grammar) does.after in
-      let rebased = by_grammar new.sessions same step.sessions in
-      shows_words g old new number (requests.Reword form forms) over apt same step.last
-      (rise_rebased g new.pages.words 0 old.last old.sessions new.sessions rebased apt)
-      (does.word, does.forms, does.named, does.of_word, ap (λ (s : parts.State). s.words) does.after)
-      (rebased_own g new.pages.words old.sessions new.sessions number rebased)
+      rebased_shows (requests.Reword form forms) step.last step.sessions
+      (does.word, does.forms, does.named, does.of_word, ap shared does.after) (λ rebases. rebases)
   reword_shows form forms reply step = absurd (false≢true (ap tells_reword step.pages.1.answer))
 
   pub unword_shows : (form : List ℕ) (reply : Reply) → StepsPages old (requests.Unword form) reply new
-      → Shows g old new number (apart.heard_of_words (answered (requests.Unword form) reply))
-  unword_shows form (replies.Refused refusal) step = shows_pages g old new number over apt (keeps_same old.pages new.pages step.pages.1) step.sessions step.last
+      → Shows old new number (apart.heard_of_words (answered (requests.Unword form) reply))
+  unword_shows form (replies.Refused refusal) step = shows_pages old new number apt (keeps_same old.pages new.pages step.pages.1) step.sessions step.last
   unword_shows form replies.Unword step =
       let does = step.pages.1 in
       let end = step.sessions in
-      let same = ap (λ (s : parts.State). s.grammar) does.after in
-      let rebased = by_grammar end.rebased same end.rebases in
-      let rise = rise_rebased g new.pages.words 0 old.last old.sessions end.rebased rebased apt in
-      shows_words g old new number (requests.Unword form) over apt same step.last
+      let rise = rise_rebased new.pages.grammar new.pages.words 0 old.last old.sessions end.rebased end.rebases apt in
+      shows_words old new number (requests.Unword form) apt step.last
       (subst (RiseTo 0 old.last) (sym end.ended) (rise_filter (λ s. not (is_on end.word s)) 0 old.last end.rebased rise))
-      (does.word, does.named, ap (λ (s : parts.State). s.words) does.after) (
+      (does.word, does.named, ap shared does.after) (
         end.word,
         own_of end.rebased number,
         end.named,
-        rebased_own g new.pages.words old.sessions end.rebased number rebased,
+        rebased_own new.pages.grammar new.pages.words old.sessions end.rebased number end.rebases,
         ap (λ (sessions : List PlainSession). own_of sessions number) end.ended ∙ ended_own end.word number 0 old.last end.rebased rise,
       )
   unword_shows form reply step = absurd (false≢true (ap tells_unword step.pages.1.answer))
 
+  pub grammar_shows : (text : List ℕ) (reply : Reply) → StepsPages old (requests.Grammar text) reply new
+      → Shows old new number (apart.heard_of_words (answered (requests.Grammar text) reply))
+  grammar_shows text (replies.Refused refusal) step =
+      shows_pages old new number apt (keeps_same old.pages new.pages step.pages.1) step.sessions step.last
+  grammar_shows text replies.Grammar step =
+      let does = step.pages.1 in
+      rebased_shows (requests.Grammar text) step.last step.sessions (does.g, does.is, ap shared does.after) (λ rebases. rebases)
+  grammar_shows text reply step = absurd (false≢true (ap tells_grammar step.pages.1.answer))
+
   pub other_shows : (request : Request) (reply : Reply) → changes_words request ≡ false → store.Step old.pages request reply new.pages
       → new.sessions ≡ old.sessions → new.last ≡ old.last
-      → Shows g old new number []
+      → Shows old new number []
   other_shows request reply no_words step same last =
-      shows_pages g old new number over apt (step_keeps old.pages new.pages request reply no_words step) same last
+      shows_pages old new number apt (step_keeps old.pages new.pages request reply no_words step) same last
 
   -- ---- requests on sessions, each refused or done
 
   -- the words stay where what is stored stays
   stays : (sessions : List PlainSession) → RiseTo 0 old.last sessions → new ≡ record old { sessions = sessions } → (heard : List apart.Heard)
-      → Follows g (seen old number) heard (record { words = old.pages.words; own = own_of sessions number }) → Shows g old new number heard
+      → Follows (seen old number) heard (record { shared = shared old.pages; own = own_of sessions number }) → Shows old new number heard
   stays sessions rise same heard follows =
-      subst (λ (s : State). Shows g old s number heard) (sym same) (record { grammar = over; apt = rise; later = omega arith; follows = follows })
+      subst (λ (s : State). Shows old s number heard) (sym same) (record { apt = rise; later = omega arith; follows = follows })
 
-  one : (heard : apart.Heard) (after : Seen) → Goes g (seen old number) heard after → Follows g (seen old number) (heard ∷ []) after
+  one : (heard : apart.Heard) (after : Seen) → Goes (seen old number) heard after → Follows (seen old number) (heard ∷ []) after
   one heard after goes = (after, goes, refl)
 
   -- a text is typed
   not_typed : (text : List ℕ) (refusal : Refusal) → Refuses old (requests.Put number text) refusal
-      → OwnTypes g old.pages.words text (own_of old.sessions number) (own_of old.sessions number)
+      → OwnTypes old.pages.grammar old.pages.words text (own_of old.sessions number) (own_of old.sessions number)
   not_typed text refusal refused = by_case (session_of old.sessions (record { 0 = number })) refl
     where
       same_session : (s t : PlainSession) → session_of old.sessions (record { 0 = number }) ≡ Some s → session_numbered old number ≡ Some t → t ≡ s
       same_session s t is its = same_Some t s (sym its ∙ is)
 
       why : (s : PlainSession) → session_of old.sessions (record { 0 = number }) ≡ Some s → Refuses old (requests.Put number text) refusal
-          → IsNotTyped g old.pages.words text s.tokens
+          → IsNotTyped old.pages.grammar old.pages.words text s.tokens
       why s is (inl gone) = absurd (none-some s (sym gone.none ∙ is))
       why s is (inr (there, inl full)) = inl (subst (λ (t : PlainSession). MOST_TOKENS ≤ length t.tokens) (same_session s full.session is full.named) full.full)
       why s is (inr (there, inr (not_full, inl not_offered))) =
@@ -187,29 +202,28 @@ module _ (g : GrammarParts) (old new : State) (number : ℕ) (over : old.pages.g
           not_offered.not_there in
           inr (
             λ many. not_full (full_at limits.Tokens) (record { session = s; named = is; full = many; told = refl }),
-            subst (λ (h : GrammarParts). IsInMenu h old.pages.words s.tokens (typed h.terminals s.tokens text) → ⊥) over by_own,
+            by_own,
           )
       why s is (inr (there, inr (not_full, inr (offered, never)))) = absurd never
 
       by_case : (o : Option PlainSession) → session_of old.sessions (record { 0 = number }) ≡ o
-          → OwnTypes g old.pages.words text (option_map own o) (option_map own o)
+          → OwnTypes old.pages.grammar old.pages.words text (option_map own o) (option_map own o)
       by_case None is = refl
       by_case (Some s) is = inl (why s is refused, refl)
 
   typed_on : (text : List ℕ) (session : PlainSession) → session_numbered old number ≡ Some session → IsFree old (requests.Put number text)
-      → OwnTypes g old.pages.words text (own_of old.sessions number)
+      → OwnTypes old.pages.grammar old.pages.words text (own_of old.sessions number)
       (option_map own (option_map (with_tokens (λ tokens. tokens ++ typed old.pages.grammar.terminals tokens text ∷ []))
       (session_of old.sessions (record { 0 = number }))))
   typed_on text session is free =
-      subst (λ (o : Option PlainSession). OwnTypes g old.pages.words text (option_map own o)
+      subst (λ (o : Option PlainSession). OwnTypes old.pages.grammar old.pages.words text (option_map own o)
       (option_map own (option_map (with_tokens (λ tokens. tokens ++ typed old.pages.grammar.terminals tokens text ∷ [])) o)))
       (sym is) (inr (
         may,
-        ap (λ (h : GrammarParts). Some
-            (record { article = session.article; tokens = session.tokens ++ typed h.terminals session.tokens text ∷ [] })) over,
+        refl,
       ))
     where
-      may : IsNotTyped g old.pages.words text session.tokens → ⊥
+      may : IsNotTyped old.pages.grammar old.pages.words text session.tokens → ⊥
       may (inl full) = free (full_at limits.Tokens)
           (inr (λ other gone. none-some session (sym gone.none ∙ is), inl (record { session = session; named = is; full = full; told = refl })))
       may (inr (not_full, not_there)) =
@@ -221,24 +235,23 @@ module _ (g : GrammarParts) (old new : State) (number : ℕ) (over : old.pages.g
               inl (record {
                 session = session;
                 named = is;
-                not_there = subst (λ (h : GrammarParts). IsInMenu h old.pages.words session.tokens (typed h.terminals session.tokens text) → ⊥) (sym over)
-                    not_there;
+                not_there = not_there;
                 told = refl;
               }),
             ),
           ))
 
-  pub put_shows : (text : List ℕ) (reply : Reply) → StepsSession old (requests.Put number text) reply new → Shows g old new number (apart.typed text ∷ [])
+  pub put_shows : (text : List ℕ) (reply : Reply) → StepsSession old (requests.Put number text) reply new → Shows old new number (apart.typed text ∷ [])
   put_shows text (replies.Refused refusal) step =
-      subst (λ (s : State). Shows g old s number (apart.typed text ∷ [])) (sym step.1)
-      (record { grammar = over; apt = apt; later = omega arith; follows = one (apart.typed text) (seen old number) (refl, not_typed text refusal step.0) })
+      subst (λ (s : State). Shows old s number (apart.typed text ∷ [])) (sym step.1)
+      (record { apt = apt; later = omega arith; follows = one (apart.typed text) (seen old number) (refl, not_typed text refusal step.0) })
   put_shows text reply step =
       let change = with_tokens (λ tokens. tokens ++ typed old.pages.grammar.terminals tokens text ∷ []) in
       let sessions = with_change old.sessions (record { 0 = number }) change in
       stays sessions (rise_changed number change (λ s. refl) 0 old.last old.sessions apt) step.1.after (apart.typed text ∷ [])
-      (one (apart.typed text) (record { words = old.pages.words; own = own_of sessions number }) (
+      (one (apart.typed text) (record { shared = shared old.pages; own = own_of sessions number }) (
         refl,
-        subst (λ (o : Option PlainSession). OwnTypes g old.pages.words text (own_of old.sessions number) (option_map own o))
+        subst (λ (o : Option PlainSession). OwnTypes old.pages.grammar old.pages.words text (own_of old.sessions number) (option_map own o))
             (sym (changed_own old.sessions number change (λ s. refl)))
             (typed_on text step.1.session step.1.named step.0),
       ))
@@ -262,40 +275,39 @@ module _ (g : GrammarParts) (old new : State) (number : ℕ) (over : old.pages.g
   mapped_twice f h same None = refl
   mapped_twice f h same (Some s) = ap Some (same s)
 
-  pub back_shows : (reply : Reply) → StepsSession old (requests.Back number) reply new → Shows g old new number (apart.stepped_back ∷ [])
+  pub back_shows : (reply : Reply) → StepsSession old (requests.Back number) reply new → Shows old new number (apart.stepped_back ∷ [])
   back_shows (replies.Refused refusal) step =
-      subst (λ (s : State). Shows g old s number (apart.stepped_back ∷ [])) (sym step.1)
-      (record { grammar = over; apt = apt; later = omega arith; follows = one apart.stepped_back (seen old number) (refl, not_back refusal step.0) })
+      subst (λ (s : State). Shows old s number (apart.stepped_back ∷ [])) (sym step.1)
+      (record { apt = apt; later = omega arith; follows = one apart.stepped_back (seen old number) (refl, not_back refusal step.0) })
   back_shows reply step =
       let change = with_tokens (λ tokens. take (length tokens - 1) tokens) in
       let sessions = with_change old.sessions (record { 0 = number }) change in
       stays sessions (rise_changed number change (λ s. refl) 0 old.last old.sessions apt) step.1.after (apart.stepped_back ∷ [])
-      (one apart.stepped_back (record { words = old.pages.words; own = own_of sessions number }) (
+      (one apart.stepped_back (record { shared = shared old.pages; own = own_of sessions number }) (
         refl,
         ap (option_map own) (changed_own old.sessions number change (λ s. refl))
             ∙ mapped_twice change own_back (λ s. refl) (session_of old.sessions (record { 0 = number })),
       ))
 
-  pub drop_shows : (reply : Reply) → StepsSession old (requests.Drop number) reply new → Shows g old new number (apart.dropped ∷ [])
+  pub drop_shows : (reply : Reply) → StepsSession old (requests.Drop number) reply new → Shows old new number (apart.dropped ∷ [])
   drop_shows (replies.Refused refusal) step =
-      subst (λ (s : State). Shows g old s number (apart.dropped ∷ [])) (sym step.1)
-      (record { grammar = over; apt = apt; later = omega arith; follows = one apart.dropped (seen old number) (refl, ap (option_map own) step.0.none) })
+      subst (λ (s : State). Shows old s number (apart.dropped ∷ [])) (sym step.1)
+      (record { apt = apt; later = omega arith; follows = one apart.dropped (seen old number) (refl, ap (option_map own) step.0.none) })
   drop_shows reply step =
       let sessions = without_session old.sessions (record { 0 = number }) in
       stays sessions (rise_filter (λ s. not (has_number (record { 0 = number }) s)) 0 old.last old.sessions apt) step.1.after (apart.dropped ∷ [])
-      (one apart.dropped (record { words = old.pages.words; own = own_of sessions number }) (refl, ap (option_map own) (without_own old.sessions number)))
+      (one apart.dropped (record { shared = shared old.pages; own = own_of sessions number }) (refl, ap (option_map own) (without_own old.sessions number)))
 
   pub commit_shows : (form : List ℕ) (status : Status) (text : List ℕ) → StepsSession old (requests.Commit number) (replies.Commit form status text) new
-      → Shows g old new number (apart.committed ∷ [])
+      → Shows old new number (apart.committed ∷ [])
   commit_shows form status text step =
       let change = begun_again step.1.article in
       let sessions = with_change old.sessions (record { 0 = number }) change in
-      subst (λ (s : State). Shows g old s number (apart.committed ∷ [])) (sym step.1.after)
+      subst (λ (s : State). Shows old s number (apart.committed ∷ [])) (sym step.1.after)
       (record {
-        grammar = over;
         apt = rise_changed number change (λ s. refl) 0 old.last old.sessions apt;
         later = omega arith;
-        follows = one apart.committed (record { words = old.pages.words; own = own_of sessions number }) (
+        follows = one apart.committed (record { shared = shared old.pages; own = own_of sessions number }) (
           refl,
           ap (option_map own) (changed_own old.sessions number change (λ s. refl))
               ∙ mapped_twice change own_emptied (λ s. refl) (session_of old.sessions (record { 0 = number })),
@@ -309,57 +321,56 @@ module _ (g : GrammarParts) (old new : State) (number : ℕ) (over : old.pages.g
   other_own n change keeps apart_is = ap (option_map own) (changed_other old.sessions n number change keeps apart_is)
 
   other_changes : (n : ℕ) (change : PlainSession → PlainSession) → ((s : PlainSession) → (change s).number.0 ≡ s.number.0) → (n == number) ≡ false
-      → new ≡ record old { sessions = with_change old.sessions (record { 0 = n }) change } → Shows g old new number []
+      → new ≡ record old { sessions = with_change old.sessions (record { 0 = n }) change } → Shows old new number []
   other_changes n change keeps apart_is same =
       stays (with_change old.sessions (record { 0 = n }) change) (rise_changed n change keeps 0 old.last old.sessions apt) same []
-      (seen_is (record { words = old.pages.words; own = own_of (with_change old.sessions (record { 0 = n }) change) number }) (seen old number) refl
+      (seen_is (record { shared = shared old.pages; own = own_of (with_change old.sessions (record { 0 = n }) change) number }) (seen old number) refl
       (other_own n change keeps apart_is))
 
-  pub put_other : (n : ℕ) (text : List ℕ) (reply : Reply) → (n == number) ≡ false → StepsSession old (requests.Put n text) reply new → Shows g old new number []
-  put_other n text (replies.Refused refusal) apart_is step = shows_same g old new number over apt step.1
+  pub put_other : (n : ℕ) (text : List ℕ) (reply : Reply) → (n == number) ≡ false → StepsSession old (requests.Put n text) reply new → Shows old new number []
+  put_other n text (replies.Refused refusal) apart_is step = shows_same old new number apt step.1
   put_other n text reply apart_is step =
       other_changes n (with_tokens (λ tokens. tokens ++ typed old.pages.grammar.terminals tokens text ∷ [])) (λ s. refl) apart_is step.1.after
 
-  pub back_other : (n : ℕ) (reply : Reply) → (n == number) ≡ false → StepsSession old (requests.Back n) reply new → Shows g old new number []
-  back_other n (replies.Refused refusal) apart_is step = shows_same g old new number over apt step.1
+  pub back_other : (n : ℕ) (reply : Reply) → (n == number) ≡ false → StepsSession old (requests.Back n) reply new → Shows old new number []
+  back_other n (replies.Refused refusal) apart_is step = shows_same old new number apt step.1
   back_other n reply apart_is step = other_changes n (with_tokens (λ tokens. take (length tokens - 1) tokens)) (λ s. refl) apart_is step.1.after
 
-  pub drop_other : (n : ℕ) (reply : Reply) → (n == number) ≡ false → StepsSession old (requests.Drop n) reply new → Shows g old new number []
-  drop_other n (replies.Refused refusal) apart_is step = shows_same g old new number over apt step.1
+  pub drop_other : (n : ℕ) (reply : Reply) → (n == number) ≡ false → StepsSession old (requests.Drop n) reply new → Shows old new number []
+  drop_other n (replies.Refused refusal) apart_is step = shows_same old new number apt step.1
   drop_other n reply apart_is step =
       let sessions = without_session old.sessions (record { 0 = n }) in
       stays sessions (rise_filter (λ s. not (has_number (record { 0 = n }) s)) 0 old.last old.sessions apt) step.1.after []
-      (seen_is (record { words = old.pages.words; own = own_of sessions number }) (seen old number) refl
+      (seen_is (record { shared = shared old.pages; own = own_of sessions number }) (seen old number) refl
       (ap (option_map own) (without_other old.sessions n number apart_is)))
 
   pub commit_other : (n : ℕ) (form : List ℕ) (status : Status) (text : List ℕ) → (n == number) ≡ false
-      → StepsSession old (requests.Commit n) (replies.Commit form status text) new → Shows g old new number []
+      → StepsSession old (requests.Commit n) (replies.Commit form status text) new → Shows old new number []
   commit_other n form status text apart_is step =
       let change = begun_again step.1.article in
       let sessions = with_change old.sessions (record { 0 = n }) change in
-      subst (λ (s : State). Shows g old s number []) (sym step.1.after)
+      subst (λ (s : State). Shows old s number []) (sym step.1.after)
       (record {
-        grammar = over;
         apt = rise_changed n change (λ s. refl) 0 old.last old.sessions apt;
         later = omega arith;
-        follows = seen_is (record { words = old.pages.words; own = own_of sessions number }) (seen old number) refl (other_own n change (λ s. refl) apart_is);
+        follows = seen_is (record { shared = shared old.pages; own = own_of sessions number }) (seen old number) refl (other_own n change (λ s. refl) apart_is);
       })
 
-  pub commit_refused : (n : ℕ) (reply : Reply) → tells_commit reply ≡ false → StepsSession old (requests.Commit n) reply new → Shows g old new number []
-  commit_refused n (replies.Refused refusal) not_told step = shows_same g old new number over apt step.1
+  pub commit_refused : (n : ℕ) (reply : Reply) → tells_commit reply ≡ false → StepsSession old (requests.Commit n) reply new → Shows old new number []
+  commit_refused n (replies.Refused refusal) not_told step = shows_same old new number apt step.1
   commit_refused n reply not_told step = absurd (false≢true (sym not_told ∙ ap tells_commit step.1.answer))
 
-  pub menu_shows : (n : ℕ) (reply : Reply) → StepsSession old (requests.Menu n) reply new → Shows g old new number []
-  menu_shows n (replies.Refused refusal) step = shows_same g old new number over apt step.1
-  menu_shows n reply step = shows_same g old new number over apt step.1.after
+  pub menu_shows : (n : ℕ) (reply : Reply) → StepsSession old (requests.Menu n) reply new → Shows old new number []
+  menu_shows n (replies.Refused refusal) step = shows_same old new number apt step.1
+  menu_shows n reply step = shows_same old new number apt step.1.after
 
   -- another revision changes no tokens, of whichever session
-  pub refresh_shows : (n : ℕ) (reply : Reply) → StepsSession old (requests.Refresh n) reply new → Shows g old new number []
-  refresh_shows n (replies.Refused refusal) step = shows_same g old new number over apt step.1
+  pub refresh_shows : (n : ℕ) (reply : Reply) → StepsSession old (requests.Refresh n) reply new → Shows old new number []
+  refresh_shows n (replies.Refused refusal) step = shows_same old new number apt step.1
   refresh_shows n reply step =
       let change = with_revision step.1.article.revision in
       stays (with_change old.sessions (record { 0 = n }) change) (rise_changed n change (λ s. refl) 0 old.last old.sessions apt) step.1.after []
-      (seen_is (record { words = old.pages.words; own = own_of (with_change old.sessions (record { 0 = n }) change) number }) (seen old number) refl
+      (seen_is (record { shared = shared old.pages; own = own_of (with_change old.sessions (record { 0 = n }) change) number }) (seen old number) refl
       (ap (option_map own) (find_changed (λ (s : PlainSession). s.number.0) n number change (λ s. refl) old.sessions)
       ∙ alike (session_of old.sessions (record { 0 = number }))))
     where
@@ -374,32 +385,30 @@ module _ (g : GrammarParts) (old new : State) (number : ℕ) (over : old.pages.g
 
   -- another session is opened
   pub begin_other : (form : List ℕ) (reply : Reply) → (old.last + 1 == number) ≡ false → StepsSession old (requests.Begin form) reply new
-      → Shows g old new number []
-  begin_other form (replies.Refused refusal) apart_is step = shows_same g old new number over apt step.1
+      → Shows old new number []
+  begin_other form (replies.Refused refusal) apart_is step = shows_same old new number apt step.1
   begin_other form reply apart_is step =
       let session = new_session (record { 0 = old.last + 1 }) step.1.word step.1.article.revision in
-      subst (λ (s : State). Shows g old s number []) (sym step.1.after)
+      subst (λ (s : State). Shows old s number []) (sym step.1.after)
       (record {
-        grammar = over;
         apt = rise_append 0 old.last old.sessions session refl apt;
         later = omega arith;
-        follows = seen_is (record { words = old.pages.words; own = own_of (old.sessions ++ session ∷ []) number }) (seen old number) refl
+        follows = seen_is (record { shared = shared old.pages; own = own_of (old.sessions ++ session ∷ []) number }) (seen old number) refl
             (ap (option_map own) (opened_other old.sessions session number apart_is));
       })
 
   -- the session itself is opened
   pub begin_shows : (form : List ℕ) → session_numbered old number ≡ None → StepsSession old (requests.Begin form) (replies.Begin number) new
-      → Shows g old new number (apart.opened form ∷ []) × (number ≤ new.last)
+      → Shows old new number (apart.opened form ∷ []) × (number ≤ new.last)
   begin_shows form none step =
       let session = new_session (record { 0 = old.last + 1 }) step.1.word step.1.article.revision in
       let is_next : number ≡ old.last + 1 = ap session_told step.1.answer in
       let same : (old.last + 1 == number) ≡ true = eq-eqb (old.last + 1) number (sym is_next) in
-      subst (λ (s : State). Shows g old s number (apart.opened form ∷ []) × (number ≤ s.last)) (sym step.1.after) (
+      subst (λ (s : State). Shows old s number (apart.opened form ∷ []) × (number ≤ s.last)) (sym step.1.after) (
         record {
-          grammar = over;
           apt = rise_append 0 old.last old.sessions session refl apt;
           later = omega arith;
-          follows = one (apart.opened form) (record { words = old.pages.words; own = own_of (old.sessions ++ session ∷ []) number })
+          follows = one (apart.opened form) (record { shared = shared old.pages; own = own_of (old.sessions ++ session ∷ []) number })
               (refl, (step.1.word, step.1.named, ap (option_map own) (opened_own old.sessions session number none same)));
         },
         omega (arith, is_next),

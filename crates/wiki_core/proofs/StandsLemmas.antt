@@ -8,7 +8,8 @@ use Rattle.std.proofs.lemmas.List.Elements.{All-head, All-tail}
 use Rattle.std.proofs.lemmas.Option.{none-some, same_Some}
 use Rattle.codeco_terms.specs.GrammarParts.{GrammarParts}
 use Rattle.codeco_checked.specs.Sound.{IsSound}
-use Rattle.lexicon.specs.Words.{Listed, with_word, with_forms, without_word}
+use Rattle.codeco_reader.proofs.OneGrammar.{text_sound}
+use Rattle.lexicon.specs.Words.{Listed, with_word, with_forms, without_word, with_terminals, reground_refusal}
 use Rattle.editor.specs.Editing.{typed}
 use Rattle.sessions.specs.Sessions.{PlainSession, new_session, has_number, session_of, is_on, with_change, with_tokens, with_revision, AreRebased}
 use Rattle.wiki_talk.specs.declared.replies.Reply.{Reply}
@@ -17,26 +18,26 @@ use Rattle.wiki_talk.specs.declared.requests.Request.TheVariants as requests
 use Rattle.wiki_talk.specs.declared.limits.Limit.TheVariants as limits
 use Rattle.wiki_talk.specs.Turns.{Exchange, answered, no_request, Turns}
 use Rattle.wiki_parts.specs.State as parts
-use Rattle.wiki_parts.specs.Words.{forms_given, full_at, word_refusal}
+use Rattle.wiki_parts.specs.Words.{forms_given, full_at, word_refusal, lexicon_refusal}
 use Rattle.wiki_parts.specs.Faults.{IsAbsent}
-use Rattle.wiki_parts.specs.Refusing.{FirstOf, NamesNoWord, IsBadReword, BreaksSentence, reword_cause}
+use Rattle.wiki_parts.specs.Refusing.{FirstOf, NamesNoWord, IsBadReword, BreaksSentence, IsNoGrammar, IsBare, HasForm, BreaksByGrammar, reword_cause}
 use Rattle.wiki_store.specs.Step as store
 use Rattle.wiki_store.specs.Step.{asks_store}
 use Rattle.derivations.proofs.GrowLemmas.{Each}
 use Rattle.wiki_core.specs.State.{State, first_state}
 use Rattle.wiki_core.specs.Causes.{session_numbered}
 use Rattle.wiki_core.specs.Step.{Step, StepsPages, StepsSession, CarriesSessions, EndOnArticle, IsFree, begun_again, numbered}
-use Rattle.wiki_core.specs.Journaled.{changes_of, asked_of, tells_spent, is_spent_in, SpendsNone, GivesUtf8, NoneIsRaised, StandAlike, StandsAgain}
+use Rattle.wiki_core.specs.Journaled.{changes_of, asked_of, tells_spent, is_spent_in, SpendsNone, GivesUtf8, GivesUnraised, NoneIsRaised, StandAlike, StandsAgain}
 use Rattle.wiki_core.proofs.SeenLemmas.{RiseTo}
 use Rattle.wiki_core.proofs.RunLemmas.{IsApt}
 use Rattle.wiki_core.proofs.ApartLemmas.{open_step}
-use Rattle.wiki_core.proofs.ReadableLemmas.{AreReadable, no_words, readable_word, readable_reword, readable_without}
+use Rattle.wiki_core.proofs.ReadableLemmas.{AreReadable, no_words, readable_word, readable_reword, readable_without, readable_beside}
 use Rattle.wiki_core.proofs.ReadyLemmas.{AreReady}
 use Rattle.wiki_core.proofs.OneStepLemmas as one
 use Rattle.wiki_core.proofs.OneStepLemmas.{at_budget, store_one}
 use Rattle.wiki_core.proofs.WholeStepLemmas as whole
 use Rattle.wiki_core.proofs.WholeStepLemmas.{state_at, step_one}
-use Rattle.wiki_core.proofs.AgainLemmas.{reply_again, spent_again, IsMade, AreShortSessions, step_made}
+use Rattle.wiki_core.proofs.AgainLemmas.{reply_again, spent_again, IsMade, AreShortSessions, free_third, step_made}
 
 -- ---- words stay readable
 
@@ -66,49 +67,61 @@ pub not_bad_reword : (old : parts.State) (text : List ℕ) (texts : List (List �
 not_bad_reword old text texts free refusal bad = free refusal (inr (λ other h. free other (inl h), inl bad))
 
 does_ready : (old : parts.State) (request : Request) (reply : Reply) (new : parts.State) → AreReady old.grammar old.words → GivesUtf8 request
-    → store.IsFree old request → store.Does old request reply new → AreReady new.grammar new.words
-does_ready old (requests.Word kind texts) reply new ready utf8 free x =
+    → GivesUnraised request → store.IsFree old request → store.Does old request reply new → AreReady new.grammar new.words
+does_ready old (requests.Word kind texts) reply new ready utf8 unraised free x =
     other_words old new (with_word old.words (forms_given kind texts)) ready (ap (λ (p : parts.State). p.grammar) x.after)
     (ap (λ (p : parts.State). p.words) x.after) refl
     (readable_word old.words kind texts utf8 (none_told (word_refusal old.words kind texts) free) ready.readable)
-does_ready old (requests.Reword text texts) reply new ready utf8 free x =
+does_ready old (requests.Reword text texts) reply new ready utf8 unraised free x =
     other_words old new (with_forms old.words x.word (forms_given x.forms.kind texts)) ready (ap (λ (p : parts.State). p.grammar) x.after)
     (ap (λ (p : parts.State). p.words) x.after) refl
     (readable_reword old.words x.word x.forms texts x.of_word utf8
     (none_told (reword_cause old.words x.word x.forms.kind texts) (λ refusal told. not_bad_reword old text texts free refusal
     (record { word = x.word; named = x.named; old = x.forms; of_word = x.of_word; told = told }))) ready.readable)
-does_ready old (requests.Unword text) reply new ready utf8 free x =
+does_ready old (requests.Unword text) reply new ready utf8 unraised free x =
     other_words old new (without_word old.words x.word) ready (ap (λ (p : parts.State). p.grammar) x.after) (ap (λ (p : parts.State). p.words) x.after) refl
     (readable_without old.words.terminals old.words.live x.word ready.readable)
-does_ready old (requests.Find text) reply new ready utf8 free x =
+does_ready old (requests.Grammar text) reply new ready utf8 unraised free x =
+    let none : lexicon_refusal old.words (reground_refusal old.words.live x.g.terminals) ≡ None =
+    none_told (lexicon_refusal old.words (reground_refusal old.words.live x.g.terminals)) (λ refusal told.
+    free_third (IsNoGrammar text) (IsBare text) (HasForm old text) (BreaksByGrammar old text ∷ []) free refusal
+    (record { g = x.g; is = x.is; told = told })) in
+    let ready_after : AreReady x.g (with_terminals old.words x.g.terminals) = record {
+      sound = text_sound text x.g x.is;
+      apart = unraised x.g x.is;
+      terminals = refl;
+      readable = readable_beside old.words x.g.terminals none ready.readable;
+    } in
+    subst (λ (p : parts.State). AreReady p.grammar p.words) (sym x.after) ready_after
+does_ready old (requests.Find text) reply new ready utf8 unraised free x =
     same_words old new ready (ap (λ (p : parts.State). p.grammar) x.after) (ap (λ (p : parts.State). p.words) x.after)
-does_ready old requests.Words reply new ready utf8 free x =
+does_ready old requests.Words reply new ready utf8 unraised free x =
     same_words old new ready (ap (λ (p : parts.State). p.grammar) x.after) (ap (λ (p : parts.State). p.words) x.after)
-does_ready old (requests.Parse text) reply new ready utf8 free x =
+does_ready old (requests.Parse text) reply new ready utf8 unraised free x =
     same_words old new ready (ap (λ (p : parts.State). p.grammar) x.after) (ap (λ (p : parts.State). p.words) x.after)
-does_ready old (requests.Add article given text) reply new ready utf8 free x =
+does_ready old (requests.Add article given text) reply new ready utf8 unraised free x =
     same_words old new ready (ap (λ (p : parts.State). p.grammar) x.after) (ap (λ (p : parts.State). p.words) x.after)
-does_ready old (requests.Edit article place text) reply new ready utf8 free x =
+does_ready old (requests.Edit article place text) reply new ready utf8 unraised free x =
     same_words old new ready (ap (λ (p : parts.State). p.grammar) x.after) (ap (λ (p : parts.State). p.words) x.after)
-does_ready old (requests.Remove article place) reply new ready utf8 free x =
+does_ready old (requests.Remove article place) reply new ready utf8 unraised free x =
     same_words old new ready (ap (λ (p : parts.State). p.grammar) x.after) (ap (λ (p : parts.State). p.words) x.after)
-does_ready old (requests.Retract article place) reply new ready utf8 free x =
+does_ready old (requests.Retract article place) reply new ready utf8 unraised free x =
     same_words old new ready (ap (λ (p : parts.State). p.grammar) x.after) (ap (λ (p : parts.State). p.words) x.after)
-does_ready old (requests.Reassert article place) reply new ready utf8 free x =
+does_ready old (requests.Reassert article place) reply new ready utf8 unraised free x =
     same_words old new ready (ap (λ (p : parts.State). p.grammar) x.after) (ap (λ (p : parts.State). p.words) x.after)
-does_ready old (requests.Read article) reply new ready utf8 free x =
+does_ready old (requests.Read article) reply new ready utf8 unraised free x =
     same_words old new ready (ap (λ (p : parts.State). p.grammar) x.after) (ap (λ (p : parts.State). p.words) x.after)
-does_ready old (requests.Axioms article place) reply new ready utf8 free x =
+does_ready old (requests.Axioms article place) reply new ready utf8 unraised free x =
     same_words old new ready (ap (λ (p : parts.State). p.grammar) x.after) (ap (λ (p : parts.State). p.words) x.after)
-does_ready old request reply new ready utf8 free x = absurd x
+does_ready old request reply new ready utf8 unraised free x = absurd x
 
 pages_ready : (old : parts.State) (request : Request) (reply : Reply) (new : parts.State) → AreReady old.grammar old.words → GivesUtf8 request
-    → store.Step old request reply new → AreReady new.grammar new.words
-pages_ready old request reply new ready utf8 step = by (one.outcome old request reply new step)
+    → GivesUnraised request → store.Step old request reply new → AreReady new.grammar new.words
+pages_ready old request reply new ready utf8 unraised step = by (one.outcome old request reply new step)
   where
     by : one.IsRefused old request reply new ⊎ one.IsDone old request reply new → AreReady new.grammar new.words
     by (inl refused) = subst (λ (p : parts.State). AreReady p.grammar p.words) (sym refused.3) ready
-    by (inr done) = does_ready old request reply new ready utf8 done.0 done.1
+    by (inr done) = does_ready old request reply new ready utf8 unraised done.0 done.1
 
 -- ---- sessions stay short
 
@@ -225,6 +238,14 @@ module _ (old new : State) (reply : Reply) (ready : IsReady old) where
           (subst (λ (r : Reply). CarriesSessions old (requests.Reword form forms) r new) refused.1 carries)
       by (inr done) = short_rebased new.pages.grammar new.pages.words old.sessions new.sessions
           (subst (λ (r : Reply). CarriesSessions old (requests.Reword form forms) r new) done.1.answer carries) ready.short
+  carried_short (requests.Grammar text) step carries = by (one.outcome old.pages (requests.Grammar text) reply new.pages step)
+    where
+      by : one.IsRefused old.pages (requests.Grammar text) reply new.pages ⊎ one.IsDone old.pages (requests.Grammar text) reply new.pages
+          → AreShortSessions new.sessions
+      by (inl refused) = kept_short
+          (subst (λ (r : Reply). CarriesSessions old (requests.Grammar text) r new) refused.1 carries)
+      by (inr done) = short_rebased new.pages.grammar new.pages.words old.sessions new.sessions
+          (subst (λ (r : Reply). CarriesSessions old (requests.Grammar text) r new) done.1.answer carries) ready.short
   carried_short (requests.Unword form) step carries = by (one.outcome old.pages (requests.Unword form) reply new.pages step)
     where
       by : one.IsRefused old.pages (requests.Unword form) reply new.pages ⊎ one.IsDone old.pages (requests.Unword form) reply new.pages
@@ -318,27 +339,27 @@ module _ (old new : State) (reply : Reply) (ready : IsReady old) where
       by (inl refused) = (same_pages (ap (λ (s : State). s.pages) refused.3), kept_short (ap (λ (s : State). s.sessions) refused.3))
       by (inr done) = session_done request done
 
-  stored_ready : (request : Request) → GivesUtf8 request → StepsPages old request reply new
+  stored_ready : (request : Request) → GivesUtf8 request → GivesUnraised request → StepsPages old request reply new
       → AreReady new.pages.grammar new.pages.words × AreShortSessions new.sessions
-  stored_ready request utf8 step =
-      (pages_ready old.pages request reply new.pages ready.pages utf8 step.pages, carried_short request step.pages step.sessions)
+  stored_ready request utf8 unraised step =
+      (pages_ready old.pages request reply new.pages ready.pages utf8 unraised step.pages, carried_short request step.pages step.sessions)
 
-  parts_ready : (request : Request) → GivesUtf8 request → Step old request reply new
+  parts_ready : (request : Request) → GivesUtf8 request → GivesUnraised request → Step old request reply new
       → AreReady new.pages.grammar new.pages.words × AreShortSessions new.sessions
-  parts_ready (requests.Begin article) utf8 step = session_ready (requests.Begin article) step
-  parts_ready (requests.Put session text) utf8 step = session_ready (requests.Put session text) step
-  parts_ready (requests.Back session) utf8 step = session_ready (requests.Back session) step
-  parts_ready (requests.Menu session) utf8 step = session_ready (requests.Menu session) step
-  parts_ready (requests.Commit session) utf8 step = session_ready (requests.Commit session) step
-  parts_ready (requests.Refresh session) utf8 step = session_ready (requests.Refresh session) step
-  parts_ready (requests.Drop session) utf8 step = session_ready (requests.Drop session) step
-  parts_ready request utf8 step = stored_ready request utf8 step
+  parts_ready (requests.Begin article) utf8 unraised step = session_ready (requests.Begin article) step
+  parts_ready (requests.Put session text) utf8 unraised step = session_ready (requests.Put session text) step
+  parts_ready (requests.Back session) utf8 unraised step = session_ready (requests.Back session) step
+  parts_ready (requests.Menu session) utf8 unraised step = session_ready (requests.Menu session) step
+  parts_ready (requests.Commit session) utf8 unraised step = session_ready (requests.Commit session) step
+  parts_ready (requests.Refresh session) utf8 unraised step = session_ready (requests.Refresh session) step
+  parts_ready (requests.Drop session) utf8 unraised step = session_ready (requests.Drop session) step
+  parts_ready request utf8 unraised step = stored_ready request utf8 unraised step
 
   -- a wiki stays ready
-  pub stays_ready : (request : Request) → GivesUtf8 request → Step old request reply new → IsReady new
-  stays_ready request utf8 step =
-      let both = parts_ready request utf8 step in
-      record { pages = both.0; apt = (open_step old.pages.grammar old new 0 refl ready.apt (omega arith) request reply step).apt; short = both.1 }
+  pub stays_ready : (request : Request) → GivesUtf8 request → GivesUnraised request → Step old request reply new → IsReady new
+  stays_ready request utf8 unraised step =
+      let both = parts_ready request utf8 unraised step in
+      record { pages = both.0; apt = (open_step old new 0 ready.apt (omega arith) request reply step).apt; short = both.1 }
 
 -- ---- runs
 
@@ -385,25 +406,30 @@ made_again old new change said step kept asks other its_new its_reply same its_s
 
 -- the changes of a run, asked over the same words and sentences
 made_run : (exchanges : List (Exchange Request Reply)) (first last other its_last : State) → IsReady first → Turns Step first exchanges last
-    → All GivesUtf8 (asked_of exchanges) → SpendsNone exchanges → StandAlike first.pages other.pages → Asks other (changes_of exchanges) its_last
+    → All GivesUtf8 (asked_of exchanges) → All GivesUnraised (asked_of exchanges) → SpendsNone exchanges → StandAlike first.pages other.pages
+    → Asks other (changes_of exchanges) its_last
     → StandAlike last.pages its_last.pages
-made_run [] first last other its_last ready turns utf8 kept same asks =
+made_run [] first last other its_last ready turns utf8 unraised kept same asks =
     subst (λ (s : State). StandAlike s.pages its_last.pages) (sym turns) (subst (λ (s : State). StandAlike first.pages s.pages) (sym asks) same)
-made_run (no_request ∷ exchanges) first last other its_last ready (next, is, turns) utf8 kept same asks =
-    made_run exchanges next last other its_last (subst IsReady (sym is) ready) turns utf8 kept
+made_run (no_request ∷ exchanges) first last other its_last ready (next, is, turns) utf8 unraised kept same asks =
+    made_run exchanges next last other its_last (subst IsReady (sym is) ready) turns utf8 unraised kept
     (subst (λ (s : State). StandAlike s.pages other.pages) (sym is) same) asks
-made_run (answered request reply ∷ exchanges) first last other its_last ready (next, step, turns) utf8 kept same asks =
+made_run (answered request reply ∷ exchanges) first last other its_last ready (next, step, turns) utf8 unraised kept same asks =
     by (step_made first request reply next ready.pages ready.short step)
-    (λ it alike asked. made_run exchanges next last it its_last later turns later_utf8 both.1 alike asked)
+    (λ it alike asked. made_run exchanges next last it its_last later turns later_utf8 later_unraised both.1 alike asked)
   where
     both : (tells_spent reply ≡ false) × (list_any is_spent_in exchanges ≡ false)
     both = neither (tells_spent reply) (list_any is_spent_in exchanges) kept
 
     later : IsReady next
-    later = stays_ready first next reply ready request (All-head GivesUtf8 request (asked_of exchanges) utf8) step
+    later = stays_ready first next reply ready request (All-head GivesUtf8 request (asked_of exchanges) utf8)
+        (All-head GivesUnraised request (asked_of exchanges) unraised) step
 
     later_utf8 : All GivesUtf8 (asked_of exchanges)
     later_utf8 = All-tail GivesUtf8 request (asked_of exchanges) utf8
+
+    later_unraised : All GivesUnraised (asked_of exchanges)
+    later_unraised = All-tail GivesUnraised request (asked_of exchanges) unraised
 
     by : IsMade first.pages request reply next.pages
         → ((it : State) → StandAlike next.pages it.pages → Asks it (changes_of exchanges) its_last → StandAlike last.pages its_last.pages)
@@ -422,14 +448,15 @@ made_run (answered request reply ∷ exchanges) first last other its_last ready 
 
 -- a run leaves a wiki ready
 ready_run : (exchanges : List (Exchange Request Reply)) (first last : State) → IsReady first → Turns Step first exchanges last
-    → All GivesUtf8 (asked_of exchanges) → IsReady last
-ready_run [] first last ready turns utf8 = subst IsReady (sym turns) ready
-ready_run (answered request reply ∷ exchanges) first last ready (next, step, turns) utf8 =
+    → All GivesUtf8 (asked_of exchanges) → All GivesUnraised (asked_of exchanges) → IsReady last
+ready_run [] first last ready turns utf8 unraised = subst IsReady (sym turns) ready
+ready_run (answered request reply ∷ exchanges) first last ready (next, step, turns) utf8 unraised =
     ready_run exchanges next last
-    (stays_ready first next reply ready request (All-head GivesUtf8 request (asked_of exchanges) utf8) step) turns
-    (All-tail GivesUtf8 request (asked_of exchanges) utf8)
-ready_run (no_request ∷ exchanges) first last ready (next, is, turns) utf8 =
-    ready_run exchanges next last (subst IsReady (sym is) ready) turns utf8
+    (stays_ready first next reply ready request (All-head GivesUtf8 request (asked_of exchanges) utf8)
+    (All-head GivesUnraised request (asked_of exchanges) unraised) step) turns
+    (All-tail GivesUtf8 request (asked_of exchanges) utf8) (All-tail GivesUnraised request (asked_of exchanges) unraised)
+ready_run (no_request ∷ exchanges) first last ready (next, is, turns) utf8 unraised =
+    ready_run exchanges next last (subst IsReady (sym is) ready) turns utf8 unraised
 
 -- the wiki without words is ready
 pub first_ready : (g : GrammarParts) (budget : ℕ) → IsSound g → NoneIsRaised g.terminals → IsReady (first_state g budget)
@@ -441,12 +468,13 @@ first_ready g budget sound apart = record {
 
 -- What stands is what is read.
 pub stands_again : (g : GrammarParts) → IsSound g → NoneIsRaised g.terminals → StandsAgain g
-stands_again g sound apart budget its_budget former exchanges again mid last its_last before turns its_turns same utf8_before utf8 kept_before kept its_kept =
-    let ready = ready_run former (first_state g budget) mid (first_ready g budget sound apart) before utf8_before in
+stands_again g sound apart budget its_budget former exchanges again mid last its_last before turns its_turns same utf8_before utf8 unraised_before unraised
+    kept_before kept its_kept =
+    let ready = ready_run former (first_state g budget) mid (first_ready g budget sound apart) before utf8_before unraised_before in
     let asks : Asks (first_state g its_budget) (asked_of former ++ changes_of exchanges) its_last =
     subst (λ (asked : List Request). Asks (first_state g its_budget) asked its_last) same
     (asks_turns again (first_state g its_budget) its_last its_turns its_kept) in
     let rest : Asks (state_at mid its_budget) (changes_of exchanges) its_last =
     asks_again (asked_of former) (changes_of exchanges) (first_state g budget) mid its_budget its_last
     (asks_turns former (first_state g budget) mid before kept_before) asks in
-    made_run exchanges mid last (state_at mid its_budget) its_last ready turns utf8 kept refl rest
+    made_run exchanges mid last (state_at mid its_budget) its_last ready turns utf8 unraised kept refl rest

@@ -116,6 +116,14 @@ module _ (old : State) (budget : ℕ) (said its : Reply) (new its_new : State) w
       rebased_alike pages old.sessions new.sessions its_new.sessions
       (subst (λ (reply : Reply). CarriesSessions old (requests.Reword form forms) reply new) done.0.1.answer carries)
       (subst (λ (reply : Reply). CarriesSessions (state_at old budget) (requests.Reword form forms) reply its_new) done.1.1.answer its_carries)
+  sessions_alike (requests.Grammar text) (inl (refused, its_refused)) pages carries its_carries =
+      kept_alike pages
+      (subst (λ (reply : Reply). CarriesSessions old (requests.Grammar text) reply new) refused.1 carries)
+      (subst (λ (reply : Reply). CarriesSessions (state_at old budget) (requests.Grammar text) reply its_new) its_refused.1 its_carries)
+  sessions_alike (requests.Grammar text) (inr (done, comes)) pages carries its_carries =
+      rebased_alike pages old.sessions new.sessions its_new.sessions
+      (subst (λ (reply : Reply). CarriesSessions old (requests.Grammar text) reply new) done.0.1.answer carries)
+      (subst (λ (reply : Reply). CarriesSessions (state_at old budget) (requests.Grammar text) reply its_new) done.1.1.answer its_carries)
   sessions_alike (requests.Unword form) (inl (refused, its_refused)) pages carries its_carries =
       kept_alike pages
       (subst (λ (reply : Reply). CarriesSessions old (requests.Unword form) reply new) refused.1 carries)

@@ -36,7 +36,7 @@ MenuIsOwn state request reply = Unit {0}
 
 -- ---- a session's tokens
 
--- what a session hears: that it was opened on the article that has the form, what is asked of it, and that words have changed
+-- what a session hears: that it was opened on the article that has the form, what is asked of it, and that words or the grammar have changed
 pub data Heard : Type 0 where
   opened : List ℕ → Heard
   typed : List ℕ → Heard
@@ -45,11 +45,12 @@ pub data Heard : Type 0 where
   dropped : Heard
   changed : Request → Heard
 
--- an accepted request that changes words
+-- an accepted request that changes words or the grammar
 abbrev pub heard_of_words : Exchange Request Reply → List Heard
 heard_of_words (answered (requests.Word kind forms) replies.Word) = changed (requests.Word kind forms) ∷ []
 heard_of_words (answered (requests.Reword form forms) replies.Reword) = changed (requests.Reword form forms) ∷ []
 heard_of_words (answered (requests.Unword form) replies.Unword) = changed (requests.Unword form) ∷ []
+heard_of_words (answered (requests.Grammar text) replies.Grammar) = changed (requests.Grammar text) ∷ []
 heard_of_words exchange = []
 
 -- what the session with the number hears while it is open: the requests that type, drop a token or end it, whatever was replied, its
@@ -66,7 +67,7 @@ abbrev pub opened_by : ℕ → Exchange Request Reply → Option (List ℕ)
 opened_by number (answered (requests.Begin form) (replies.Begin session)) = if session == number then Some form else None
 opened_by number exchange = None
 
--- What the session with the number hears in all: changes of words, then that it was opened, and from there on what it hears while it
+-- What the session with the number hears in all: changes of words and of the grammar, then that it was opened, and from there on what it hears while it
 -- is open.
 abbrev pub heard_by : ℕ → List (Exchange Request Reply) → List Heard
 heard_by number [] = []
@@ -74,7 +75,7 @@ heard_by number (exchange ∷ exchanges) =
     option_map_or (λ form. opened form ∷ flat_map (heard_open number) exchanges) (opened_by number exchange)
     (heard_of_words exchange ++ heard_by number exchanges)
 
--- A session's tokens are a function of the grammar and of what the session heard: in any two runs over the grammar, whatever the
+-- A session's tokens are a function of the grammar that the wiki began with and of what the session heard: in any two runs from that grammar on, whatever the
 -- budgets are and whatever else was asked, two sessions that heard the same have the same tokens.
 abbrev pub TokensAreOwn : GrammarParts → Type 0
 TokensAreOwn g =

@@ -4,6 +4,7 @@ use Rattle.std.specs.List.{flat_map, list_any}
 use Rattle.wiki_base.specs.declared.text.TheConstants.{LONGEST_TEXT}
 use Rattle.wiki_base.specs.declared.tokens.TheConstants.{MOST_TOKENS}
 use Rattle.codeco_terms.specs.GrammarParts.{GrammarParts}
+use Rattle.codeco_reader.specs.Texts.{IsTextOf}
 use Rattle.lexicon.specs.declared.words.TheConstants.{LAST_NUMBER}
 use Rattle.derivation_trees.specs.Cutting.{is_terminal, IsNotRaised}
 use Rattle.wiki_talk.specs.declared.statuses.Status.{Status}
@@ -19,11 +20,12 @@ use Rattle.wiki_core.specs.Step.{Step}
 
 -- ---- changes
 
--- a request that changes words or sentences; what is done in a session is gone with it
+-- a request that changes the grammar, words or sentences; what is done in a session is gone with it
 abbrev pub own_change : Request → List Request
 own_change (requests.Word kind forms) = requests.Word kind forms ∷ []
 own_change (requests.Reword word forms) = requests.Reword word forms ∷ []
 own_change (requests.Unword word) = requests.Unword word ∷ []
+own_change (requests.Grammar text) = requests.Grammar text ∷ []
 own_change (requests.Add article place text) = requests.Add article place text ∷ []
 own_change (requests.Edit article place text) = requests.Edit article place text ∷ []
 own_change (requests.Remove article place) = requests.Remove article place ∷ []
@@ -87,19 +89,21 @@ SpendsNone exchanges = list_any is_spent_in exchanges ≡ false
 
 -- ---- texts
 
--- the forms that are given for a word are in UTF-8
+-- the forms that are given for a word, and the text of a grammar, are in UTF-8
 abbrev pub GivesUtf8 : Request → Type 0
 GivesUtf8 (requests.Word kind forms) = All IsUtf8 forms
 GivesUtf8 (requests.Reword word forms) = All IsUtf8 forms
+GivesUtf8 (requests.Grammar text) = IsUtf8 text
 GivesUtf8 request = Unit {0}
 
 -- no terminal is another one with its first letter raised to upper case, so that the first word of a sentence tells which it is
 abbrev pub NoneIsRaised : List (List ℕ) → Type 0
 NoneIsRaised terminals = (token : List ℕ) → is_terminal terminals token ≡ true → IsNotRaised terminals token
 
--- each terminal has at most as many bytes as a form may have
-abbrev pub AreShort : List (List ℕ) → Type 0
-AreShort terminals = (terminal : List ℕ) → is_terminal terminals terminal ≡ true → length terminal ≤ 64
+-- the same of the grammar that a request gives
+abbrev pub GivesUnraised : Request → Type 0
+GivesUnraised (requests.Grammar text) = (g : GrammarParts) → IsTextOf text g → NoneIsRaised g.terminals
+GivesUnraised request = Unit {0}
 
 -- each terminal is in UTF-8
 abbrev pub AreUtf8 : List (List ℕ) → Type 0
@@ -133,11 +137,12 @@ ArePlainForms forms = All IsPlainForm forms × (length forms ≤ 3)
 abbrev pub IsPlainSentence : List ℕ → Type 0
 IsPlainSentence text = IsUtf8 text × (length text ≤ MOST_TOKENS * (LONGEST_TEXT + 1))
 
--- the texts of a change are forms, and what shows a sentence
+-- the texts of a change are forms, and what shows a sentence; that of a grammar is as long as it was sent
 abbrev pub HasPlainTexts : Request → Type 0
 HasPlainTexts (requests.Word kind forms) = ArePlainForms forms
 HasPlainTexts (requests.Reword word forms) = IsPlainForm word × ArePlainForms forms
 HasPlainTexts (requests.Unword word) = IsPlainForm word
+HasPlainTexts (requests.Grammar text) = IsUtf8 text
 HasPlainTexts (requests.Add article place text) = IsPlainForm article × IsPlainSentence text
 HasPlainTexts (requests.Edit article place text) = IsPlainForm article × IsPlainSentence text
 HasPlainTexts (requests.Remove article place) = IsPlainForm article
@@ -145,15 +150,16 @@ HasPlainTexts (requests.Retract article place) = IsPlainForm article
 HasPlainTexts (requests.Reassert article place) = IsPlainForm article
 HasPlainTexts request = ⊥
 
--- the request is a change of words or sentences, and a short line can tell it
+-- the request is a change of the grammar, words or sentences, and but for the text of a grammar a short line can tell it
 abbrev pub FitsLine : Request → Type 0
 FitsLine request = HasPlainTexts request × HasShortPlace request
 
--- Each change of a run fits a short line, however long the text was that was sent.
+-- Each change of a run but for that of the grammar fits a short line, however long the text was that was sent.
 abbrev pub ChangesFitLines : GrammarParts → Type 0
 ChangesFitLines g =
     (budget : ℕ) (exchanges : List (Exchange Request Reply)) (last : State) → Turns Step (first_state g budget) exchanges last
-    → All GivesUtf8 (asked_of exchanges) → All HasShortPlace (asked_of exchanges) → All FitsLine (changes_of exchanges)
+    → All GivesUtf8 (asked_of exchanges) → All GivesUnraised (asked_of exchanges) → All HasShortPlace (asked_of exchanges)
+    → All FitsLine (changes_of exchanges)
 
 -- ---- what stands
 
@@ -162,7 +168,8 @@ abbrev pub StandAlike : parts.State → parts.State → Type 0
 StandAlike one other = other ≡ record one { budget = other.budget }
 
 -- What stands is what is read. Take any run, and another one that is asked for all of a first part of it again, and then for the changes
--- of the rest. Where no reply of the two tells that a budget was spent, the second run ends with the words, the last number of a word,
+-- of the rest. Where no grammar that is given has a terminal that is another one raised, and no reply of the two tells that a budget was
+-- spent, the second run ends with the grammar, the words, the last number of a word,
 -- the articles, their revisions, their sentences and statuses with which the first one ends.
 abbrev pub StandsAgain : GrammarParts → Type 0
 StandsAgain g =
@@ -170,5 +177,6 @@ StandsAgain g =
     → Turns Step (first_state g budget) former mid → Turns Step mid exchanges last
     → Turns Step (first_state g its_budget) again its_last → asked_of again ≡ asked_of former ++ changes_of exchanges
     → All GivesUtf8 (asked_of former) → All GivesUtf8 (asked_of exchanges)
+    → All GivesUnraised (asked_of former) → All GivesUnraised (asked_of exchanges)
     → SpendsNone former → SpendsNone exchanges → SpendsNone again
     → StandAlike last.pages its_last.pages

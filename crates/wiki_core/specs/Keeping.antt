@@ -19,9 +19,10 @@ abbrev pub is_word : Request → Bool
 is_word (requests.Word kind forms) = true
 is_word request = false
 
--- the request is one that changes words
+-- the request is one that changes words or the grammar
 abbrev pub changes_words : Request → Bool
 changes_words (requests.Word kind forms) = true
 changes_words (requests.Reword form forms) = true
 changes_words (requests.Unword form) = true
+changes_words (requests.Grammar text) = true
 changes_words request = false

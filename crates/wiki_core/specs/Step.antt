@@ -31,7 +31,7 @@ use Rattle.wiki_core.specs.Causes.{session_numbered, NamesNoSession, IsFullOfSes
 
 -- ---- words and sentences, beside sessions
 
--- each session is rebased to the words as they are after it
+-- each session is rebased to the grammar and the words as they are after it
 abbrev pub AreRebasedTo : parts.State → List PlainSession → List PlainSession → Type 0
 AreRebasedTo pages old new = AreRebased pages.grammar pages.words old new
 
@@ -48,6 +48,7 @@ abbrev pub CarriesSessions : State → Request → Reply → State → Type 0
 CarriesSessions old (requests.Word kind forms) replies.Word new = AreRebasedTo new.pages old.sessions new.sessions
 CarriesSessions old (requests.Reword form forms) replies.Reword new = AreRebasedTo new.pages old.sessions new.sessions
 CarriesSessions old (requests.Unword form) replies.Unword new = EndOnArticle old form new
+CarriesSessions old (requests.Grammar text) replies.Grammar new = AreRebasedTo new.pages old.sessions new.sessions
 CarriesSessions old request reply new = new.sessions ≡ old.sessions
 
 -- words and sentences take their step, and sessions are carried over it

@@ -4,10 +4,10 @@ ghost use Rattle.lexicon.specs.declared.words.TheConstants.{LAST_NUMBER};
 ghost use Rattle.wiki_core.specs.Journaled.{IsHeld};
 
 use lexicon::LAST_NUMBER;
-use wiki_base::Text8s;
+use wiki_base::{Text8, Text8s};
 use wiki_talk::Request;
 
-// Whether the forms that a request gives are in UTF-8, and its place has 32 bits, as always.
+// Whether the forms or the text that a request gives are in UTF-8, and its place has 32 bits, as always.
 pub fn is_held(request: &Request) -> bool
     ensures yes { result ≡ true }
     ensures held { IsHeld request.now }
@@ -15,6 +15,7 @@ pub fn is_held(request: &Request) -> bool
     match request {
         Request::Word { forms, .. } => are_utf8(forms),
         Request::Reword { forms, .. } => are_utf8(forms),
+        Request::Grammar { text } => is_utf8(text),
         Request::Add { at, .. } => is_short(at.unwrap_or(0)),
         Request::Edit { at, .. } => is_short(*at),
         Request::Remove { at, .. } => is_short(*at),
@@ -29,6 +30,15 @@ fn is_short(place: u32) -> bool
     ensures short { place ≤ LAST_NUMBER }
 {
     place <= LAST_NUMBER
+}
+
+// Whether the text is in UTF-8, as it always is.
+fn is_utf8(text: &Text8) -> bool
+    ensures yes { result ≡ true }
+    ensures utf8 { IsUtf8 text.now }
+{
+    let _ = text.as_bytes();
+    true
 }
 
 // Whether each of the texts is in UTF-8, as it always is.

@@ -71,4 +71,18 @@ impl Wiki {
         self.sessions = sessions;
         Ok(Reply::Unword)
     }
+
+    // Takes in another grammar, and rebases the sessions to it.
+    pub(crate) fn reground(&mut self, text: &Text8) -> Result<Reply, Fault>
+        ensures step { IfOk result (λ reply. StepsPages self.old.state (Request.Grammar text.now) reply self.new.state) }
+        ensures interpretation { IfOk result (λ reply. KeepsInterpretation (pages_held self.old) reply (pages_held self.new)) }
+        ensures refused { IfErr result (IsFault (store_steps.Refuses self.old.state.pages (Request.Grammar text.now))) }
+        ensures kept { OnErr result (self.new ≡ self.old) }
+    {
+        let (grammar, lexicon) = self.store.regrounding(text)?;
+        let sessions = self.sessions.regrounded(&grammar, &lexicon)?;
+        self.store.regrounded(grammar, lexicon);
+        self.sessions = sessions;
+        Ok(Reply::Grammar)
+    }
 }

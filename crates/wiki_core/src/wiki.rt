@@ -43,7 +43,7 @@ impl Wiki {
     ghost use Rattle.codeco_checked.specs.Sound.{is_labelled};
     ghost use Rattle.wiki_core.specs.Apart.{MenuIsOwn, TokensAreOwn};
     ghost use Rattle.wiki_core.specs.Holding.{first_holding, pages_held, IsKept};
-    ghost use Rattle.wiki_core.specs.Journaled.{NoneIsRaised, AreShort, AreUtf8, IsHeld, StandsAgain, ChangesFitLines};
+    ghost use Rattle.wiki_core.specs.Journaled.{NoneIsRaised, AreUtf8, IsHeld, StandsAgain, ChangesFitLines};
     ghost use Rattle.wiki_core.specs.Spending.{SpendsBeyondKept};
     ghost use Rattle.wiki_core.specs.Step.{Step, StepsSession};
     ghost use Rattle.wiki_store.specs.Spending.{KeptHasEachUnknown};
@@ -55,7 +55,7 @@ impl Wiki {
         ensures first { IfOk result (λ wiki. wiki ≡ first_holding grammar budget) }
         ensures apart { TokensAreOwn grammar }
         ensures stands { NoneIsRaised grammar.terminals → StandsAgain grammar }
-        ensures lines { NoneIsRaised grammar.terminals → AreShort grammar.terminals → AreUtf8 grammar.terminals → ChangesFitLines grammar }
+        ensures lines { NoneIsRaised grammar.terminals → AreUtf8 grammar.terminals → ChangesFitLines grammar }
     {
         // What is read again rests on a grammar without faults.
         let _ = grammar.grammar();
@@ -112,6 +112,7 @@ impl Wiki {
             Request::Word { .. } => self.add_word(request),
             Request::Reword { word, forms } => told(self.reword(word, forms.as_slice())),
             Request::Unword { word } => told(self.unword(word)),
+            Request::Grammar { text } => told(self.reground(text)),
             Request::Find { .. } => self.step_pages(request),
             Request::Words => self.step_pages(request),
             Request::Parse { .. } => self.step_pages(request),

@@ -2,6 +2,7 @@ pub mod CauseLemmas
 pub mod FaithLemmas
 pub mod FirstLemmas
 pub mod FullLemmas
+pub mod GrammarLemmas
 pub mod KnownLemmas
 pub mod LiveNames
 pub mod MeaningLemmas

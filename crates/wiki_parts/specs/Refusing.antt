@@ -1,16 +1,20 @@
 -- Why requests on words, articles and sentences are refused: each cause as what it refuses with where it stands.
-use Rattle.std.specs.Prelude.{◌≡◌, ℕ, ◌≤◌, ◌<◌, ◌⊎◌, ◌==◌, ◌||◌, Bool, true, false, List, [], ◌∷◌, length, find, Option, Some, None}
+use Rattle.std.specs.Prelude.{◌≡◌, ℕ, ◌≤◌, ◌<◌, ◌⊎◌, ◌==◌, ◌||◌, Bool, true, false, List, [], ◌∷◌, length, codes, find, Option, Some, None}
 use Rattle.std.specs.List.{list_any}
 use Rattle.std.specs.Option.{option_or}
 use Rattle.wiki_base.specs.declared.numbers.WordId.{WordId}
 use Rattle.codeco_terms.specs.GrammarParts.{GrammarParts}
 use Rattle.lexicon.specs.declared.kinds.Kind.{Kind}
 use Rattle.lexicon.specs.declared.kinds.Forms.{Forms}
-use Rattle.lexicon.specs.Words.{Listed, is_among, forms_of, canonical_form_of, with_forms, reword_refusal}
+use Rattle.codeco_checked.specs.declared.fault.GrammarFault.{GrammarFault}
+use Rattle.codeco_checked.specs.declared.fault.GrammarFault.TheVariants as faults
+use Rattle.codeco_checked.specs.Sound.{is_labelled}
+use Rattle.codeco_reader.specs.Texts.{IsTextOf, IsFaultOf}
+use Rattle.lexicon.specs.Words.{Listed, is_among, forms_of, canonical_form_of, with_forms, with_terminals, reword_refusal, reground_refusal}
 use Rattle.wiki_talk.specs.declared.limits.Limit.TheVariants as limits
 use Rattle.wiki_talk.specs.Limits.{amount_of}
 use Rattle.wiki_talk.specs.declared.refusals.Refusal.{Refusal}
-use Rattle.wiki_talk.specs.declared.refusals.Refusal.TheVariants.{NoWord, NoPlace, InUse, Breaks, BadStatus}
+use Rattle.wiki_talk.specs.declared.refusals.Refusal.TheVariants.{NoWord, NoPlace, InUse, Breaks, BadStatus, GrammarRefused, Bare}
 use Rattle.wiki_talk.specs.declared.statuses.Status.{Status}
 use Rattle.wiki_talk.specs.declared.statuses.Status.TheVariants.{Asserted, Retracted, RedContradiction, RedBudget, Outside, Question, QuestionOutside}
 use Rattle.articles.specs.declared.sentences.Sentence.{Sentence}
@@ -48,15 +52,15 @@ pub record IsBadReword (state : State) (text : List ℕ) (texts : List (List ℕ
   pub of_word : forms_of state.words.live word ≡ Some old
   pub told : reword_cause state.words word old.kind texts ≡ Some refusal
 
--- the tokens have the same meaning with the one words as with the others
-pub record KeepsMeaning (g : GrammarParts) (old new : Listed) (tokens : List (List ℕ)) : Type 0 where
+-- the tokens have the same meaning by the one grammar and words as by the others
+pub record KeepsMeaning (g : GrammarParts) (old : Listed) (other : GrammarParts) (new : Listed) (tokens : List (List ℕ)) : Type 0 where
   pub meaning : Meaning
   pub before : Means g old tokens meaning
-  pub after : Means g new tokens meaning
+  pub after : Means other new tokens meaning
 
--- with other forms for the word the sentence has no derivation, or another meaning
-abbrev pub IsBroken : State → WordId → Forms → Placed → Type 0
-IsBroken state word forms placed = ¬ KeepsMeaning state.grammar state.words (with_forms state.words word forms) placed.sentence.tokens
+-- by the other grammar and words the sentence has no derivation, or another meaning
+abbrev pub IsBroken : State → GrammarParts → Listed → Placed → Type 0
+IsBroken state other new placed = ¬ KeepsMeaning state.grammar state.words other new placed.sentence.tokens
 
 -- the sentence stands in the word's article, or has a form of the word
 abbrev pub uses_word : WordId → Forms → Placed → Bool
@@ -75,7 +79,7 @@ pub record BreaksSentence (state : State) (text : List ℕ) (texts : List (List 
   pub old : Forms
   pub of_word : forms_of state.words.live word ≡ Some old
   pub first : Placed
-  pub breaks : IsFirstPlaced (IsBroken state word (forms_given old.kind texts)) (all_placed state.articles) first
+  pub breaks : IsFirstPlaced (IsBroken state state.grammar (with_forms state.words word (forms_given old.kind texts))) (all_placed state.articles) first
   pub told : TellsPlace state Breaks first.word first.place refusal
 
 -- a sentence needs the word: the first one is told
@@ -87,6 +91,61 @@ pub record IsInUse (state : State) (text : List ℕ) (refusal : Refusal) : Type 
   pub first : Placed
   pub uses : find (uses_word word forms) (all_placed state.articles) ≡ Some first
   pub told : TellsPlace state InUse first.word first.place refusal
+
+-- ---- grammars
+
+-- the name that is told of a fault of a text, and its byte, feature or rule; 0 where it has none
+abbrev pub fault_name : GrammarFault → List ℕ
+fault_name (faults.Syntax n) = codes "Syntax"
+fault_name (faults.TooLarge n) = codes "TooLarge"
+fault_name (faults.Undeclared n) = codes "Undeclared"
+fault_name (faults.BadValue n) = codes "BadValue"
+fault_name (faults.EmptyRule n) = codes "EmptyRule"
+fault_name (faults.LeftRecursion n) = codes "LeftRecursion"
+fault_name (faults.TakenVariable n) = codes "TakenVariable"
+fault_name (faults.LabelKind n) = codes "LabelKind"
+fault_name faults.NoStart = codes "NoStart"
+fault_name faults.Memory = []
+
+abbrev pub fault_place : GrammarFault → ℕ
+fault_place (faults.Syntax n) = n
+fault_place (faults.TooLarge n) = n
+fault_place (faults.Undeclared n) = n
+fault_place (faults.BadValue n) = n
+fault_place (faults.EmptyRule n) = n
+fault_place (faults.LeftRecursion n) = n
+fault_place (faults.TakenVariable n) = n
+fault_place (faults.LabelKind n) = n
+fault_place faults.NoStart = 0
+fault_place faults.Memory = 0
+
+-- the text is that of no grammar, for this fault
+pub record IsNoGrammar (text : List ℕ) (refusal : Refusal) : Type 0 where
+  pub none : (g : GrammarParts) → ¬ IsTextOf text g
+  pub fault : GrammarFault
+  pub is : IsFaultOf text fault
+  pub told : refusal ≡ GrammarRefused (fault_name fault) (fault_place fault)
+
+-- a rule of the text's grammar has no label
+pub record IsBare (text : List ℕ) (refusal : Refusal) : Type 0 where
+  pub g : GrammarParts
+  pub is : IsTextOf text g
+  pub bare : is_labelled g ≡ false
+  pub told : refusal ≡ Bare
+
+-- the text's grammar has a form of a live word as a word of its own: the first form is told
+pub record HasForm (state : State) (text : List ℕ) (refusal : Refusal) : Type 0 where
+  pub g : GrammarParts
+  pub is : IsTextOf text g
+  pub told : lexicon_refusal state.words (reground_refusal state.words.live g.terminals) ≡ Some refusal
+
+-- by the text's grammar a sentence is broken: the first one is told
+pub record BreaksByGrammar (state : State) (text : List ℕ) (refusal : Refusal) : Type 0 where
+  pub g : GrammarParts
+  pub is : IsTextOf text g
+  pub first : Placed
+  pub breaks : IsFirstPlaced (IsBroken state g (with_terminals state.words g.terminals)) (all_placed state.articles) first
+  pub told : TellsPlace state Breaks first.word first.place refusal
 
 -- ---- places and limits
 

@@ -3,6 +3,7 @@
 
 mod answering;
 mod faults;
+mod grammars;
 mod judging;
 mod keeping;
 mod knowing;
@@ -17,6 +18,7 @@ mod words;
 
 pub use answering::{answers_of, spelled};
 pub use faults::Fault;
+pub use grammars::{grammar_read, reground};
 pub use judging::{Judgement, judged};
 pub use keeping::first_model;
 pub use knowing::{

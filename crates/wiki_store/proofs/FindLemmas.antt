@@ -1,6 +1,7 @@
 -- The first sentence that lacks a property, and whether a sentence keeps its meaning.
-use Rattle.std.proofs.Common.{◌≡◌, ℕ, zero, suc, ◌+◌, ◌<◌, ◌≤◌, ◌⊎◌, Bool, true, false, List, [], ◌∷◌, ◌++◌, length, take, drop, map, All, MatchBool, Option, Some, None, IsSome, is_some, inl, inr, refl, sym, ap, subst, ◌∙◌}
-use Rattle.std.specs.List.{slice_get}
+use Rattle.std.proofs.Common.{◌≡◌, ℕ, zero, suc, ◌+◌, ◌<◌, ◌≤◌, ◌⊎◌, Bool, true, false, not, List, [], ◌∷◌, ◌++◌, length, take, drop, map, All, MatchBool, Option, Some, None, IsSome, is_some, inl, inr, refl, sym, ap, subst, ◌∙◌}
+use Rattle.std.specs.List.{slice_get, list_any}
+use Rattle.std.specs.Option.{option_map_or}
 use Rattle.std.proofs.lemmas.Bool.{false≢true}
 use Rattle.std.proofs.lemmas.List.{length-map}
 use Rattle.std.proofs.lemmas.List.Elements.{All-nil, All-cons}
@@ -10,7 +11,8 @@ use Rattle.wiki_base.specs.declared.numbers.Place.{Place}
 use Rattle.wiki_base.proofs.ListLaws.{drop_slice_get}
 use Rattle.wiki_store.proofs.JudgeLemmas.{means-at}
 use Rattle.codeco_terms.specs.GrammarParts.{GrammarParts}
-use Rattle.lexicon.specs.Words.{Listed, forms_of}
+use Rattle.lexicon.specs.declared.kinds.Forms.{Forms}
+use Rattle.lexicon.specs.Words.{Listed, is_among, forms_of}
 use Rattle.derivation_trees.specs.Sentences.{IsSentence}
 use Rattle.logic_terms.proofs.Walks.{left_none}
 use Rattle.wiki_talk.specs.declared.refusals.Refusal.{Refusal}
@@ -25,7 +27,7 @@ use Rattle.wiki_parts.specs.Places.{Placed, placed_from, placed_in, all_placed, 
 use Rattle.wiki_parts.specs.Refusing.{KeepsMeaning, TellsPlace}
 use Rattle.wiki_parts.specs.State.{State, IsSound}
 use Rattle.wiki_parts.proofs.MeaningLemmas.{means_one}
-use Rattle.wiki_store.specs.Rewording.{Finds, FindsPlace, IsBroken}
+use Rattle.wiki_store.specs.Rewording.{Finds, FindsPlace, PassesOthers, TellsBroken}
 use Rattle.wiki_store.specs.Sameness.{same_meaning}
 use Rattle.wiki_store.proofs.KeepingLemmas.{as_many}
 use Rattle.wiki_store.proofs.SameMeanings.{meaning_equal, meaning_self}
@@ -204,59 +206,78 @@ module _ (P : Placed → Type 0) where
       (found_lives state sound t.found (subst (Finds P (all_placed state.articles)) t.is f.finds))
 
 -- the sentence at the place that is told is the first one that is broken
-pub broken_place : (state : State) (new : Listed) (place : Place)
-    → FindsPlace (λ placed. KeepsMeaning state.grammar state.words new placed.sentence.tokens) (all_placed state.articles) (Some place)
-    → (refusal : Refusal) → TellsPlace state (λ form place. Breaks form place) place.article place.at refusal → IsBroken state new refusal
-broken_place state new place f refusal told =
+pub broken_place : (state : State) (other : GrammarParts) (new : Listed) (place : Place)
+    → FindsPlace (λ placed. KeepsMeaning state.grammar state.words other new placed.sentence.tokens) (all_placed state.articles) (Some place)
+    → (refusal : Refusal) → TellsPlace state (λ form place. Breaks form place) place.article place.at refusal → TellsBroken state other new refusal
+broken_place state other new place f refusal told =
     let t = told-found f.found place f.told in
     record {
       first = t.found;
-      breaks = finds_first (λ placed. KeepsMeaning state.grammar state.words new placed.sentence.tokens) (all_placed state.articles) t.found
-          (subst (Finds (λ placed. KeepsMeaning state.grammar state.words new placed.sentence.tokens) (all_placed state.articles)) t.is f.finds);
+      breaks = finds_first (λ placed. KeepsMeaning state.grammar state.words other new placed.sentence.tokens) (all_placed state.articles) t.found
+          (subst (Finds (λ placed. KeepsMeaning state.grammar state.words other new placed.sentence.tokens) (all_placed state.articles)) t.is f.finds);
       told = subst (λ (p : Place). TellsPlace state (λ form place. Breaks form place) p.article p.at refusal) (sym t.told) told;
     }
 
 -- ---- whether a sentence keeps its meaning
 
-pub told_kept : (g : GrammarParts) (words new : Listed) (tokens : List (List ℕ)) (kept found : Meaning) (b : Bool) → b ≡ same_meaning found kept
-    → Means g words tokens kept → Means g new tokens found
-    → MatchBool b (KeepsMeaning g words new tokens) (KeepsMeaning g words new tokens → ⊥)
-told_kept g words new tokens kept found true is before after =
-    record { meaning = kept; before = before; after = subst (Means g new tokens) (meaning_equal found kept (sym is)) after }
-told_kept g words new tokens kept found false is before after = λ keeps.
-    let same : found ≡ kept = means_one g new tokens found keeps.meaning after keeps.after ∙ means_one g words tokens keeps.meaning kept keeps.before before in
+pub told_kept : (g : GrammarParts) (words : Listed) (other : GrammarParts) (new : Listed) (tokens : List (List ℕ)) (kept found : Meaning) (b : Bool)
+    → b ≡ same_meaning found kept
+    → Means g words tokens kept → Means other new tokens found
+    → MatchBool b (KeepsMeaning g words other new tokens) (KeepsMeaning g words other new tokens → ⊥)
+told_kept g words other new tokens kept found true is before after =
+    record { meaning = kept; before = before; after = subst (Means other new tokens) (meaning_equal found kept (sym is)) after }
+told_kept g words other new tokens kept found false is before after = λ keeps.
+    let same : found ≡ kept = means_one other new tokens found keeps.meaning after keeps.after
+    ∙ means_one g words tokens keeps.meaning kept keeps.before before in
     false≢true (is ∙ ap (λ (m : Meaning). same_meaning m kept) same ∙ meaning_self kept)
 
-pub not_kept : (g : GrammarParts) (words new : Listed) (tokens : List (List ℕ)) → (IsSentence g new tokens → ⊥) → KeepsMeaning g words new tokens → ⊥
-not_kept g words new tokens none keeps = let least = keeps.after.is_least in none (least.tree, least.derives)
+pub not_kept : (g : GrammarParts) (words : Listed) (other : GrammarParts) (new : Listed) (tokens : List (List ℕ)) → (IsSentence other new tokens → ⊥)
+    → KeepsMeaning g words other new tokens → ⊥
+not_kept g words other new tokens none keeps = let least = keeps.after.is_least in none (least.tree, least.derives)
 
-module _ (g : GrammarParts) (words new : Listed) (article : Article) (senses : List Sense) (at : ℕ) (s : Sentence) (m : Sense) (kept : Bool)
+-- a sentence that is passed keeps its meaning
+pub passed_keeps : (g : GrammarParts) (words : Listed) (other : GrammarParts) (new : Listed) (tokens : List (List ℕ)) (kept : Meaning)
+    (forms : Option Forms) (passed : Bool) → passed ≡ option_map_or (λ f. not (list_any (is_among f.texts) tokens)) forms false → passed ≡ true
+    → Means g words tokens kept → PassesOthers g words other new forms
+    → KeepsMeaning g words other new tokens
+passed_keeps g words other new tokens kept None passed is holds means others = absurd (false≢true (sym is ∙ holds))
+passed_keeps g words other new tokens kept (Some f) passed is holds means others =
+    record { meaning = kept; before = means; after = others tokens kept (none (list_any (is_among f.texts) tokens) (sym is ∙ holds)) means }
+  where
+    none : (b : Bool) → not b ≡ true → b ≡ false
+    none true h = absurd (false≢true h)
+    none false h = refl
+
+module _ (g : GrammarParts) (words : Listed) (other : GrammarParts) (new : Listed) (article : Article) (senses : List Sense) (at : ℕ) (s : Sentence) (m : Sense)
+    (kept : Bool)
     (here : slice_get article.sentences at ≡ Some s) (meant : slice_get senses at ≡ Some m) (mean : MeanEach g words article.sentences (meanings_in senses))
-    (told : Means g words s.tokens (meaning_shown m) → MatchBool kept (KeepsMeaning g words new s.tokens) (KeepsMeaning g words new s.tokens → ⊥)) where
-  -- the sentence at the place is the first one of the article that is broken
-  pub told_broken : kept ≡ false
-      → ((found : Option Placed) → Finds (λ placed. KeepsMeaning g words new placed.sentence.tokens) (placed_from article.word at (drop at article.sentences))
-      found
-      → Finds (λ placed. KeepsMeaning g words new placed.sentence.tokens) (placed_in article) found)
-      → FindsPlace (λ placed. KeepsMeaning g words new placed.sentence.tokens) (placed_in article) (Some (record { article = article.word; at = at }))
-  told_broken is rest =
-      let lacks = subst (λ (b : Bool). MatchBool b (KeepsMeaning g words new s.tokens) (KeepsMeaning g words new s.tokens → ⊥)) is
-      (told (means-at g words article.sentences senses at s m mean here meant)) in
-      record {
-        found = Some (record { word = article.word; place = at; sentence = s });
-        told = refl;
-        finds = rest (Some (record { word = article.word; place = at; sentence = s }))
-            (next_broken (λ placed. KeepsMeaning g words new placed.sentence.tokens) article.word article.sentences at s here lacks);
-      }
+    (told : Means g words s.tokens (meaning_shown m) → MatchBool kept (KeepsMeaning g words other new s.tokens) (KeepsMeaning g words other new s.tokens → ⊥))
+  where
+    -- the sentence at the place is the first one of the article that is broken
+    pub told_broken : kept ≡ false
+        → ((found : Option Placed) → Finds (λ placed. KeepsMeaning g words other new placed.sentence.tokens)
+        (placed_from article.word at (drop at article.sentences))
+        found
+        → Finds (λ placed. KeepsMeaning g words other new placed.sentence.tokens) (placed_in article) found)
+        → FindsPlace (λ placed. KeepsMeaning g words other new placed.sentence.tokens) (placed_in article) (Some (record { article = article.word; at = at }))
+    told_broken is rest =
+        let lacks = subst (λ (b : Bool). MatchBool b (KeepsMeaning g words other new s.tokens) (KeepsMeaning g words other new s.tokens → ⊥)) is
+        (told (means-at g words article.sentences senses at s m mean here meant)) in
+        record {
+          found = Some (record { word = article.word; place = at; sentence = s });
+          told = refl;
+          finds = rest (Some (record { word = article.word; place = at; sentence = s }))
+              (next_broken (λ placed. KeepsMeaning g words other new placed.sentence.tokens) article.word article.sentences at s here lacks);
+        }
 
-  -- or the first one is behind it
-  pub still_kept : kept ≡ true → (found : Option Placed)
-      → Finds (λ placed. KeepsMeaning g words new placed.sentence.tokens) (placed_from article.word (at + 1) (drop (at + 1) article.sentences)) found
-      → Finds (λ placed. KeepsMeaning g words new placed.sentence.tokens) (placed_from article.word at (drop at article.sentences)) found
-  still_kept is found rest =
-      let holds = subst (λ (b : Bool). MatchBool b (KeepsMeaning g words new s.tokens) (KeepsMeaning g words new s.tokens → ⊥)) is
-      (told (means-at g words article.sentences senses at s m mean here meant)) in
-      next_kept (λ placed. KeepsMeaning g words new placed.sentence.tokens) article.word article.sentences at s found here holds rest
+    -- or the first one is behind it
+    pub still_kept : kept ≡ true → (found : Option Placed)
+        → Finds (λ placed. KeepsMeaning g words other new placed.sentence.tokens) (placed_from article.word (at + 1) (drop (at + 1) article.sentences)) found
+        → Finds (λ placed. KeepsMeaning g words other new placed.sentence.tokens) (placed_from article.word at (drop at article.sentences)) found
+    still_kept is found rest =
+        let holds = subst (λ (b : Bool). MatchBool b (KeepsMeaning g words other new s.tokens) (KeepsMeaning g words other new s.tokens → ⊥)) is
+        (told (means-at g words article.sentences senses at s m mean here meant)) in
+        next_kept (λ placed. KeepsMeaning g words other new placed.sentence.tokens) article.word article.sentences at s found here holds rest
 
 -- as many meanings are kept as there are sentences
 pub as_many_sense : (g : GrammarParts) (words : Listed) (sentences : List Sentence) (senses : List Sense) → MeanEach g words sentences (meanings_in senses)

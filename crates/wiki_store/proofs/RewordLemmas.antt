@@ -24,12 +24,12 @@ use Rattle.wiki_parts.specs.Faults.{IsAbsent, IsCause, IsFault}
 use Rattle.wiki_parts.specs.Knowledge.{sentences_in}
 use Rattle.wiki_parts.specs.Meanings.{Means}
 use Rattle.wiki_parts.specs.Places.{word_named, Placed, placed_from, placed_in, all_placed, IsFirstPlaced}
-use Rattle.wiki_parts.specs.Refusing.{FirstOf, NamesNoWord, IsBadReword, BreaksSentence, IsInUse, KeepsMeaning, reword_cause, uses_word}
+use Rattle.wiki_parts.specs.Refusing.{FirstOf, NamesNoWord, IsBadReword, BreaksSentence, IsInUse, KeepsMeaning, IsBroken, reword_cause, uses_word}
 use Rattle.wiki_parts.specs.State.{State, IsSound}
 use Rattle.wiki_parts.specs.Words.{forms_given}
 use Rattle.wiki_parts.proofs.FirstLemmas.{none_stands, nothing_stands}
 use Rattle.wiki_parts.proofs.UseLemmas.{lives-article}
-use Rattle.wiki_store.specs.Rewording.{KeepsSentences, KeepsOthers, IsBroken}
+use Rattle.wiki_store.specs.Rewording.{KeepsSentences, KeepsOthers, TellsBroken}
 use Rattle.wiki_store.proofs.OtherWords.{means-with_forms}
 
 -- ---- forms of a live word
@@ -140,31 +140,37 @@ placed_sentences Q word place (s ∷ ss) all =
     All-cons Q s ss (All-head (λ (p : Placed). Q p.sentence) first (placed_from word (place + 1) ss) all)
     (placed_sentences Q word (place + 1) ss (All-tail (λ (p : Placed). Q p.sentence) first (placed_from word (place + 1) ss) all))
 
-each_sentence : (Q : Sentence → Type 0) (articles : List Article) → All (λ placed. Q placed.sentence) (all_placed articles) → All Q (sentences_in articles)
+pub each_sentence : (Q : Sentence → Type 0) (articles : List Article) → All (λ placed. Q placed.sentence) (all_placed articles) → All Q (sentences_in articles)
 each_sentence Q [] all = All-nil Q
 each_sentence Q (a ∷ articles) all =
     let parts = all_parts (λ (p : Placed). Q p.sentence) (placed_in a) (all_placed articles) all in
     All-append Q a.sentences (sentences_in articles) (placed_sentences Q a.word 0 a.sentences parts.0) (each_sentence Q articles parts.1)
 
 -- where each sentence keeps its meaning by a word's other forms, the words with them keep what the wiki has
-pub keeps_sentences : (state : State) (word : WordId) (forms : Forms) (new : Listed) → new ≡ with_forms state.words word forms
-    → All (λ placed. KeepsMeaning state.grammar state.words new placed.sentence.tokens) (all_placed state.articles) → KeepsSentences state new
-keeps_sentences state word forms new is all = record {
+pub keeps_sentences : (state : State) → IsSound state → (word : WordId) (forms : Forms) (new : Listed) → new ≡ with_forms state.words word forms
+    → All (λ placed. KeepsMeaning state.grammar state.words state.grammar new placed.sentence.tokens) (all_placed state.articles)
+    → KeepsSentences state state.grammar new
+keeps_sentences state sound word forms new is all = record {
   numbers = ap (λ (words : Listed). map (λ (w : Word). w.id) words.live) is ∙ numbers-with_forms state.words.live word forms;
-  terminals = ap (λ (words : Listed). words.terminals) is;
+  terminals = ap (λ (words : Listed). words.terminals) is ∙ sound.terminals;
   last = ap (λ (words : Listed). words.last) is;
-  keep = each_sentence (λ s. KeepsMeaning state.grammar state.words new s.tokens) state.articles all;
+  keep = each_sentence (λ s. KeepsMeaning state.grammar state.words state.grammar new s.tokens) state.articles all;
 }
 
 -- sentences without its old forms keep their meaning
 pub keeps_others : (state : State) → IsSound state → IsLexicon state.words → (word : WordId) (old forms : Forms) → forms_of state.words.live word ≡ Some old
     → forms_refusal (others state.words.live word) state.words.terminals forms ≡ None → (new : Listed) → new ≡ with_forms state.words word forms
-    → KeepsOthers state.grammar state.words new old.texts
+    → KeepsOthers state.grammar state.words state.grammar new old.texts
 keeps_others state sound lexicon word old forms of_word free new is tokens meaning unused means =
     subst (λ (words : Listed). Means state.grammar words tokens meaning) (sym is)
     (means-with_forms state.grammar state.words word old forms tokens meaning sound.terminals lexicon.in_order of_word free unused means)
 
 -- ---- why not
+
+-- what is true of all is true of the first one that is told
+pub kept_first : (Q P : Placed → Type 0) (xs : List Placed) (first : Placed) → IsFirstPlaced P xs first → All Q xs → Q first
+kept_first Q P xs first is all =
+    subst Q (get_or_from_slice_get xs is.count first first is.here) (all is.count first (slice_get_within xs is.count first is.here))
 
 same_word : (o : Option WordId) (one other : WordId) → o ≡ Some one → o ≡ Some other → one ≡ other
 same_word o one other a b = same_Some one other (sym a ∙ b)
@@ -185,7 +191,7 @@ module _ (state : State) (text : List ℕ) (texts : List (List ℕ)) (word : Wor
 
   -- and by which no sentence breaks
   pub none_breaks : (new : Listed) → new ≡ with_forms state.words word (forms_given old.kind texts)
-      → All (λ placed. KeepsMeaning state.grammar state.words new placed.sentence.tokens) (all_placed state.articles)
+      → All (λ placed. KeepsMeaning state.grammar state.words state.grammar new placed.sentence.tokens) (all_placed state.articles)
       → IsAbsent (BreaksSentence state text texts)
   none_breaks new is all refusal bad =
       let same : bad.word ≡ word = same_word (word_named state text) bad.word word bad.named named in
@@ -193,14 +199,11 @@ module _ (state : State) (text : List ℕ) (texts : List (List ℕ)) (word : Wor
       let words : with_forms state.words bad.word (forms_given bad.old.kind texts) ≡ new =
       ap (λ (w : WordId). with_forms state.words w (forms_given bad.old.kind texts)) same
       ∙ ap (λ (f : Forms). with_forms state.words word (forms_given f.kind texts)) forms ∙ sym is in
-      let first = bad.first in
-      let at = bad.breaks.count in
-      let here = bad.breaks.here in
-      let kept : KeepsMeaning state.grammar state.words new first.sentence.tokens =
-      subst (λ (p : Placed). KeepsMeaning state.grammar state.words new p.sentence.tokens)
-      (get_or_from_slice_get (all_placed state.articles) at first first here)
-      (all at first (slice_get_within (all_placed state.articles) at first here)) in
-      bad.breaks.holds (subst (λ (ws : Listed). KeepsMeaning state.grammar state.words ws first.sentence.tokens) (sym words) kept)
+      let kept : KeepsMeaning state.grammar state.words state.grammar new bad.first.sentence.tokens =
+      kept_first (λ placed. KeepsMeaning state.grammar state.words state.grammar new placed.sentence.tokens)
+      (IsBroken state state.grammar (with_forms state.words bad.word (forms_given bad.old.kind texts)))
+      (all_placed state.articles) bad.first bad.breaks all in
+      bad.breaks.holds (subst (λ (ws : Listed). KeepsMeaning state.grammar state.words state.grammar ws bad.first.sentence.tokens) (sym words) kept)
 
   -- the word is named
   pub is_named : IsAbsent (NamesNoWord state text)
@@ -208,7 +211,7 @@ module _ (state : State) (text : List ℕ) (texts : List (List ℕ)) (word : Wor
 
   -- so nothing stands against the other forms
   pub reword_free : (new : Listed) → new ≡ with_forms state.words word (forms_given old.kind texts) → reword_cause state.words word old.kind texts ≡ None
-      → All (λ placed. KeepsMeaning state.grammar state.words new placed.sentence.tokens) (all_placed state.articles)
+      → All (λ placed. KeepsMeaning state.grammar state.words state.grammar new placed.sentence.tokens) (all_placed state.articles)
       → IsAbsent (FirstOf (NamesNoWord state text ∷ IsBadReword state text texts ∷ BreaksSentence state text texts ∷ []))
   reword_free new is none all =
       none_stands (NamesNoWord state text) (IsBadReword state text texts ∷ BreaksSentence state text texts ∷ []) is_named
@@ -222,7 +225,7 @@ module _ (state : State) (text : List ℕ) (texts : List (List ℕ)) (word : Wor
 
   -- a sentence that breaks is told
   pub broken_told : (new : Listed) → new ≡ with_forms state.words word (forms_given old.kind texts) → reword_cause state.words word old.kind texts ≡ None
-      → (refusal : Refusal) → IsBroken state new refusal
+      → (refusal : Refusal) → TellsBroken state state.grammar new refusal
       → FirstOf (NamesNoWord state text ∷ IsBadReword state text texts ∷ BreaksSentence state text texts ∷ []) refusal
   broken_told new is none refusal broken =
       inr (
@@ -235,7 +238,7 @@ module _ (state : State) (text : List ℕ) (texts : List (List ℕ)) (word : Wor
             old = old;
             of_word = of_word;
             first = broken.first;
-            breaks = subst (λ (ws : Listed). IsFirstPlaced (λ placed. ¬ KeepsMeaning state.grammar state.words ws placed.sentence.tokens)
+            breaks = subst (λ (ws : Listed). IsFirstPlaced (IsBroken state state.grammar ws)
                 (all_placed state.articles) broken.first) is broken.breaks;
             told = broken.told;
           }),

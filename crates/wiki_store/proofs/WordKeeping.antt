@@ -1,5 +1,5 @@
--- What is kept beside the state by other words: with a word more, with one less, and with other forms of one.
-use Rattle.std.proofs.Common.{◌≡◌, ℕ, zero, suc, ◌+◌, ◌<◌, ◌≤◌, ◌||◌, ◌==◌, Bool, true, false, cond, List, [], ◌∷◌, ◌++◌, length, map, find, All, Option, Some, None, unwrap_or, refl, sym, ap, subst, ◌∙◌, arith, append-nil}
+-- What is kept beside the state by other words: with a word more, with one less, with other forms of one, and by another grammar.
+use Rattle.std.proofs.Common.{◌≡◌, ℕ, zero, suc, ◌+◌, ◌<◌, ◌≤◌, ◌||◌, ◌==◌, Bool, true, false, cond, List, [], ◌∷◌, ◌++◌, length, map, find, All, IsTrue, Option, Some, None, unwrap_or, refl, sym, ap, subst, ◌∙◌, arith, append-nil}
 use Rattle.std.specs.List.{slice_get, remove, list_any}
 use Rattle.std.proofs.lemmas.Grind.{flat_map-append}
 use Rattle.std.proofs.lemmas.List.{map-append}
@@ -8,6 +8,7 @@ use Rattle.std.proofs.lemmas.Option.{none-some, get_or_from_slice_get}
 use Rattle.wiki_base.specs.declared.numbers.WordId.{WordId}
 use Rattle.wiki_base.specs.declared.tokens.TheConstants.{MOST_TOKENS}
 use Rattle.codeco_terms.specs.GrammarParts.{GrammarParts}
+use Rattle.codeco_checked.specs.Sound.{is_labelled}
 use Rattle.lexicon.specs.declared.kinds.Forms.{Forms}
 use Rattle.lexicon.specs.declared.words.Word.{Word}
 use Rattle.lexicon.specs.Words.{Listed, IsLexicon, is_among, next_word, with_word, without_word, add_refusal}
@@ -34,30 +35,33 @@ use Rattle.wiki_store.proofs.KeepingLemmas.{all_parts, as_many_lists}
 use Rattle.wiki_store.proofs.OtherWords.{means-with_word, means-without_word}
 use Rattle.wiki_store.proofs.UnwordLemmas.{sound-without}
 
--- ---- sentences with their meanings by other words
+-- ---- sentences with their meanings by another grammar and other words
 
--- the sentence has each meaning by the other words that it has by these
-abbrev pub StaysMeant : GrammarParts → Listed → Listed → Sentence → Type 0
-StaysMeant g words new sentence = (meaning : Meaning) → Means g words sentence.tokens meaning → Means g new sentence.tokens meaning
+-- the sentence has each meaning by the other grammar and words that it has by these
+abbrev pub StaysMeant : GrammarParts → Listed → GrammarParts → Listed → Sentence → Type 0
+StaysMeant g words other new sentence = (meaning : Meaning) → Means g words sentence.tokens meaning → Means other new sentence.tokens meaning
 
-mean_each-by : (g : GrammarParts) (words new : Listed) (sentences : List Sentence) (meanings : List Meaning) → All (StaysMeant g words new) sentences
+mean_each-by : (g : GrammarParts) (words : Listed) (other : GrammarParts) (new : Listed) (sentences : List Sentence) (meanings : List Meaning)
+    → All (StaysMeant g words other new) sentences
     → MeanEach g words sentences meanings
-    → MeanEach g new sentences meanings
-mean_each-by g words new [] [] stay mean = tt
-mean_each-by g words new [] (m ∷ ms) stay mean = absurd mean
-mean_each-by g words new (s ∷ ss) [] stay mean = absurd mean
-mean_each-by g words new (s ∷ ss) (m ∷ ms) stay mean =
-    ((All-head (StaysMeant g words new) s ss stay m mean.0.0, mean.0.1), mean_each-by g words new ss ms (All-tail (StaysMeant g words new) s ss stay) mean.1)
+    → MeanEach other new sentences meanings
+mean_each-by g words other new [] [] stay mean = tt
+mean_each-by g words other new [] (m ∷ ms) stay mean = absurd mean
+mean_each-by g words other new (s ∷ ss) [] stay mean = absurd mean
+mean_each-by g words other new (s ∷ ss) (m ∷ ms) stay mean = (
+  (All-head (StaysMeant g words other new) s ss stay m mean.0.0, mean.0.1),
+  mean_each-by g words other new ss ms (All-tail (StaysMeant g words other new) s ss stay) mean.1,
+)
 
-mean_in_each-by : (g : GrammarParts) (words new : Listed) (articles : List Article) (senses : List (List Sense))
-    → All (StaysMeant g words new) (sentences_in articles) → MeanInEach g words articles senses
-    → MeanInEach g new articles senses
-mean_in_each-by g words new [] [] stay mean = tt
-mean_in_each-by g words new [] (own ∷ senses) stay mean = absurd mean
-mean_in_each-by g words new (a ∷ articles) [] stay mean = absurd mean
-mean_in_each-by g words new (a ∷ articles) (own ∷ senses) stay mean =
-    let parts = all_parts (StaysMeant g words new) a.sentences (sentences_in articles) stay in
-    (mean_each-by g words new a.sentences (meanings_in own) parts.0 mean.0, mean_in_each-by g words new articles senses parts.1 mean.1)
+mean_in_each-by : (g : GrammarParts) (words : Listed) (other : GrammarParts) (new : Listed) (articles : List Article) (senses : List (List Sense))
+    → All (StaysMeant g words other new) (sentences_in articles) → MeanInEach g words articles senses
+    → MeanInEach other new articles senses
+mean_in_each-by g words other new [] [] stay mean = tt
+mean_in_each-by g words other new [] (own ∷ senses) stay mean = absurd mean
+mean_in_each-by g words other new (a ∷ articles) [] stay mean = absurd mean
+mean_in_each-by g words other new (a ∷ articles) (own ∷ senses) stay mean =
+    let parts = all_parts (StaysMeant g words other new) a.sentences (sentences_in articles) stay in
+    (mean_each-by g words other new a.sentences (meanings_in own) parts.0 mean.0, mean_in_each-by g words other new articles senses parts.1 mean.1)
 
 -- what is true of each item is true of all in a list
 all_each : {X : Type 0} (P : X → Type 0) (xs : List X) → ((x : X) → P x) → All P xs
@@ -91,8 +95,8 @@ keeps_added state senses model forms word keeping free named =
     let same = sentences-added state.articles word in
     let known : known_in (state.articles ++ new_article word ∷ []) (senses ++ [] ∷ []) ≡ known_in state.articles senses =
     known_in-append state.articles (new_article word ∷ []) senses ([] ∷ []) many ∙ append-nil (known_in state.articles senses) in
-    let stay : All (StaysMeant state.grammar state.words (with_word state.words forms)) (sentences_in state.articles) =
-    all_each (StaysMeant state.grammar state.words (with_word state.words forms)) (sentences_in state.articles)
+    let stay : All (StaysMeant state.grammar state.words state.grammar (with_word state.words forms)) (sentences_in state.articles) =
+    all_each (StaysMeant state.grammar state.words state.grammar (with_word state.words forms)) (sentences_in state.articles)
     (λ s meaning means. means-with_word state.grammar state.words forms s.tokens meaning keeping.sound.terminals free means) in
     record {
       sound = record {
@@ -107,7 +111,7 @@ keeps_added state senses model forms word keeping free named =
             (All-nil (λ (a : Article). length a.sentences ≤ MOST_SENTENCES)));
       };
       mean = mean_in-added state.grammar (with_word state.words forms) state.articles senses word
-          (mean_in_each-by state.grammar state.words (with_word state.words forms) state.articles senses stay keeping.mean);
+          (mean_in_each-by state.grammar state.words state.grammar (with_word state.words forms) state.articles senses stay keeping.mean);
       known = keeping.known ∙ sym known;
       short = subst (λ (ss : List Sentence). All (λ sentence. length sentence.tokens ≤ MOST_TOKENS) ss) (sym same) keeping.short;
       few = subst (λ (ss : List Sentence). length ss ≤ MOST_SENTENCES) (sym same) keeping.few;
@@ -181,12 +185,12 @@ keeps_without state senses model word place new keeping ordered lexicon gone is 
     let left : remove state.articles place ≡ without_article state.articles word = sym (without_article-remove state.articles ordered word place is) in
     let same : sentences_in state.articles ≡ sentences_in (without_article state.articles word) =
     sentences-removed state.articles place found.0 found.1 empty ∙ ap sentences_in left in
-    let stay : All (StaysMeant state.grammar state.words (without_word state.words word)) (sentences_in state.articles) =
-    all_map (λ s. list_any (is_among gone.forms.texts) s.tokens ≡ false) (StaysMeant state.grammar state.words (without_word state.words word))
+    let stay : All (StaysMeant state.grammar state.words state.grammar (without_word state.words word)) (sentences_in state.articles) =
+    all_map (λ s. list_any (is_among gone.forms.texts) s.tokens ≡ false) (StaysMeant state.grammar state.words state.grammar (without_word state.words word))
     (sentences_in state.articles)
     (λ s unused meaning means. means-without_word state.grammar state.words word gone.forms s.tokens meaning lexicon.in_order gone.of_word unused means)
     (unused-each word gone.forms state.articles gone.unused) in
-    let mean = mean_in_each-by state.grammar state.words (without_word state.words word) state.articles senses stay keeping.mean in
+    let mean = mean_in_each-by state.grammar state.words state.grammar (without_word state.words word) state.articles senses stay keeping.mean in
     let kept : IsKeeping (record state { words = without_word state.words word; articles = without_article state.articles word }) (remove senses place) model =
     record {
       sound = sound-without state keeping.sound word;
@@ -200,26 +204,32 @@ keeps_without state senses model word place new keeping ordered lexicon gone is 
     subst (λ (words : Listed). IsKeeping (record state { words = words; articles = without_article state.articles word }) (remove senses place) model)
     (sym gone.words) kept
 
--- ---- other forms
+-- ---- another grammar, or other forms
 
--- what is kept by words by which each sentence keeps its meaning
-pub keeps_reworded : (state : State) (senses : List (List Sense)) (model : CheckedModel) (new : Listed) → IsKeeping state senses model
-    → KeepsSentences state new
-    → IsKeeping (record state { words = new }) senses model
-keeps_reworded state senses model new keeping keeps =
-    let stay : All (StaysMeant state.grammar state.words new) (sentences_in state.articles) =
-    all_map (λ s. KeepsMeaning state.grammar state.words new s.tokens) (StaysMeant state.grammar state.words new) (sentences_in state.articles)
-    (λ s kept meaning means. subst (Means state.grammar new s.tokens) (means_one state.grammar state.words s.tokens kept.meaning meaning kept.before means)
+-- what is kept by a grammar and words by which each sentence keeps its meaning
+pub keeps_regrounded : (state : State) (senses : List (List Sense)) (model : CheckedModel) (other : GrammarParts) (new : Listed)
+    → IsKeeping state senses model → IsTrue (is_labelled other) → KeepsSentences state other new
+    → IsKeeping (record state { grammar = other; words = new }) senses model
+keeps_regrounded state senses model other new keeping labelled keeps =
+    let stay : All (StaysMeant state.grammar state.words other new) (sentences_in state.articles) =
+    all_map (λ s. KeepsMeaning state.grammar state.words other new s.tokens) (StaysMeant state.grammar state.words other new) (sentences_in state.articles)
+    (λ s kept meaning means. subst (Means other new s.tokens) (means_one state.grammar state.words s.tokens kept.meaning meaning kept.before means)
     kept.after) keeps.keep in
     record {
       sound = record {
-        labelled = keeping.sound.labelled;
-        terminals = keeps.terminals ∙ keeping.sound.terminals;
+        labelled = labelled;
+        terminals = keeps.terminals;
         articles = keeping.sound.articles ∙ sym keeps.numbers;
         few = keeping.sound.few;
       };
-      mean = mean_in_each-by state.grammar state.words new state.articles senses stay keeping.mean;
+      mean = mean_in_each-by state.grammar state.words other new state.articles senses stay keeping.mean;
       known = keeping.known;
       short = keeping.short;
       few = keeping.few;
     }
+
+-- and by words alone
+pub keeps_reworded : (state : State) (senses : List (List Sense)) (model : CheckedModel) (new : Listed) → IsKeeping state senses model
+    → KeepsSentences state state.grammar new
+    → IsKeeping (record state { words = new }) senses model
+keeps_reworded state senses model new keeping keeps = keeps_regrounded state senses model state.grammar new keeping keeping.sound.labelled keeps

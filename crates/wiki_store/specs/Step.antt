@@ -3,7 +3,9 @@ use Rattle.std.specs.Prelude.{◌≡◌, ℕ, Bool, true, false, List, [], ◌�
 use Rattle.wiki_base.specs.declared.numbers.WordId.{WordId}
 use Rattle.lexicon.specs.declared.kinds.Kind.{Kind}
 use Rattle.lexicon.specs.declared.kinds.Forms.{Forms}
-use Rattle.lexicon.specs.Words.{with_word, with_forms, without_word, next_word, forms_of, canonical_form_of}
+use Rattle.codeco_terms.specs.GrammarParts.{GrammarParts}
+use Rattle.codeco_reader.specs.Texts.{IsTextOf}
+use Rattle.lexicon.specs.Words.{with_word, with_forms, without_word, with_terminals, next_word, forms_of, canonical_form_of}
 use Rattle.derivation_trees.specs.Cutting.{shown}
 use Rattle.wiki_talk.specs.declared.statuses.Status.{Status}
 use Rattle.wiki_talk.specs.declared.statuses.Status.TheVariants.{Asserted, Retracted}
@@ -23,7 +25,7 @@ use Rattle.wiki_parts.specs.Parsing.{tokens_of, RefusesText, TellsCode}
 use Rattle.wiki_parts.specs.Meanings.{Meaning, Means}
 use Rattle.wiki_parts.specs.Knowledge.{GetStatus}
 use Rattle.wiki_parts.specs.Telling.{told_meaning, TellsSentences}
-use Rattle.wiki_parts.specs.Refusing.{FirstOf, NamesNoWord, IsBadReword, BreaksSentence, IsInUse, HasNoSentenceAt, IsPastEnd, IsFullOfSentences, HasTooManyTokens, IsAtLastRevision, HasNoDerivation, HasBadStatus, may_retract, may_reassert}
+use Rattle.wiki_parts.specs.Refusing.{FirstOf, NamesNoWord, IsBadReword, BreaksSentence, IsInUse, IsNoGrammar, IsBare, HasForm, BreaksByGrammar, HasNoSentenceAt, IsPastEnd, IsFullOfSentences, HasTooManyTokens, IsAtLastRevision, HasNoDerivation, HasBadStatus, may_retract, may_reassert}
 
 -- the request is one on words, articles or sentences, and not on a session
 abbrev pub asks_store : Request → Bool
@@ -72,6 +74,7 @@ Refuses state (requests.Reassert article place) refusal =
     ∷ HasBadStatus state may_reassert article place ∷ []) refusal
 Refuses state (requests.Read article) refusal = NamesNoWord state article refusal
 Refuses state (requests.Axioms article place) refusal = FirstOf (NamesNoWord state article ∷ HasNoSentenceAt state article place ∷ []) refusal
+Refuses state (requests.Grammar text) refusal = FirstOf (IsNoGrammar text ∷ IsBare text ∷ HasForm state text ∷ BreaksByGrammar state text ∷ []) refusal
 Refuses state request refusal = ⊥
 
 -- nothing stands against the request
@@ -115,6 +118,15 @@ pub record RemovesWord (old : State) (text : List ℕ) (reply : Reply) (new : St
   pub named : word_named old text ≡ Some word
   pub answer : reply ≡ replies.Unword
   pub after : new ≡ record old { words = without_word old.words word; articles = without_article old.articles word }
+
+-- ---- what a request does to the grammar
+
+-- the text's grammar becomes that of the wiki, and the words stand beside its terminals; all sentences stay, with their statuses
+pub record TakesGrammar (old : State) (text : List ℕ) (reply : Reply) (new : State) : Type 0 where
+  pub g : GrammarParts
+  pub is : IsTextOf text g
+  pub answer : reply ≡ replies.Grammar
+  pub after : new ≡ record old { grammar = g; words = with_terminals old.words g.terminals }
 
 -- ---- what a request does to sentences
 
@@ -226,6 +238,7 @@ Does old (requests.Retract article place) reply new = RetractsSentence old artic
 Does old (requests.Reassert article place) reply new = ReassertsSentence old article place reply new
 Does old (requests.Read article) reply new = TellsArticle old article reply new
 Does old (requests.Axioms article place) reply new = TellsMeaning old article place reply new
+Does old (requests.Grammar text) reply new = TakesGrammar old text reply new
 Does old request reply new = ⊥
 
 -- One step of words and sentences: the first cause that stands against a request is told, and changes nothing; a request against

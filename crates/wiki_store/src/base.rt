@@ -131,6 +131,7 @@ impl Base {
             | Request::Remove { .. }
             | Request::Retract { .. }
             | Request::Reassert { .. }
+            | Request::Grammar { .. }
             | Request::Begin { .. }
             | Request::Put { .. }
             | Request::Back { .. }
@@ -160,6 +161,7 @@ impl Base {
             Request::Remove { article, at } => told(self.remove(article, *at)),
             Request::Retract { article, at } => told(self.retract(article, *at)),
             Request::Reassert { article, at } => told(self.reassert(article, *at)),
+            Request::Grammar { text } => told(self.reground(text)),
             Request::Find { .. }
             | Request::Words
             | Request::Parse { .. }

@@ -10,6 +10,7 @@ mod joining;
 mod lending;
 mod reading;
 mod recalling;
+mod regrounding;
 mod remembered;
 mod removing;
 mod rewording;

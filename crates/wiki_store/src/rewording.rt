@@ -1,9 +1,12 @@
 // Other forms for a word, by which each sentence keeps its meaning.
-ghost use Rattle.std.specs.Prelude.{◌≡◌, ◌≤◌, None, Some, IfOk, IfErr, OnOk, OnErr, IsSome, IsTrue, All, MatchBool, length};
+ghost use Rattle.std.specs.Prelude.{◌≡◌, ◌≤◌, None, Some, IfOk, IfErr, OnOk, OnErr, IsSome, IsTrue, All, MatchBool, length, not, option_copied, false};
+ghost use Rattle.std.specs.List.{list_any};
+ghost use Rattle.std.specs.Option.{option_map_or};
+ghost use Rattle.codeco_terms.specs.GrammarParts.{GrammarParts};
 ghost use Rattle.codeco_checked.specs.Sound.{is_labelled};
 ghost use Rattle.lexicon.specs.declared.kinds.Forms.{Forms as TheForms};
 ghost use Rattle.lexicon.specs.Kinds.{IsComplete};
-ghost use Rattle.lexicon.specs.Words.{Listed, forms_of, with_forms, others, forms_refusal, reword_refusal};
+ghost use Rattle.lexicon.specs.Words.{Listed, is_among, forms_of, with_forms, others, forms_refusal, reword_refusal};
 ghost use Rattle.wiki_base.specs.declared.tokens.TheConstants.{MOST_TOKENS};
 ghost use Rattle.wiki_talk.specs.declared.limits.TheConstants.{MOST_SENTENCES as most_sentences};
 ghost use Rattle.wiki_parts.specs.Faults.{IsCause, IsFault};
@@ -14,7 +17,7 @@ ghost use Rattle.wiki_parts.specs.Meanings.{Means};
 ghost use Rattle.wiki_parts.specs.Places.{all_placed, placed_in};
 ghost use Rattle.wiki_parts.specs.Refusing.{KeepsMeaning, reword_cause, TellsPlace};
 ghost use Rattle.wiki_parts.specs.Words.{forms_given, lexicon_refusal, taken_refusal};
-ghost use Rattle.wiki_store.specs.Rewording.{KeepsSentences, KeepsOthers, FindsPlace, IsBroken};
+ghost use Rattle.wiki_store.specs.Rewording.{KeepsSentences, PassesOthers, FindsPlace, TellsBroken};
 ghost use Rattle.wiki_store.specs.Step.{Step, Refuses};
 ghost use Rattle.wiki_store.specs.Unchanged.{KeepsInterpretation};
 
@@ -36,20 +39,20 @@ impl Base {
     pub(crate) fn rewording(&self, form: &Text8, texts: &[Text8]) -> Result<Lexicon, Fault>
         ensures step { IfOk result (λ lexicon. Step self.now.state (Request.Reword form.now texts.now) Reply.Reword
             (record self.now.state { words = lexicon })) }
-        ensures keeps { IfOk result (KeepsSentences self.now.state) }
+        ensures keeps { IfOk result (KeepsSentences self.now.state self.now.state.grammar) }
         ensures refused { IfErr result (IsFault (Refuses self.now.state (Request.Reword form.now texts.now))) }
     {
         let word = self.named(form)?;
         let old = self.forms(word);
         let mut lexicon = self.lexicon.copy()?;
         reword_word(self.alloc, &mut lexicon, word, old.kind, texts)?;
-        self.unbroken(old, &lexicon)?;
+        self.unbroken(&self.grammar, &lexicon, Some(old))?;
         Ok(lexicon)
     }
 
     // Takes in words by which each sentence keeps its meaning.
     pub(crate) fn reworded(&mut self, lexicon: Lexicon)
-        requires { KeepsSentences self.old.state lexicon }
+        requires { KeepsSentences self.old.state self.old.state.grammar lexicon }
         ensures { self.new ≡ record self.old { state = record self.old.state { words = lexicon } } }
     {
         self.lexicon = lexicon;
@@ -78,16 +81,22 @@ impl Base {
         }
     }
 
-    // Whether each sentence keeps its meaning by other words, where those without the old forms of a word do.
-    fn unbroken(&self, forms: &Forms, lexicon: &Lexicon) -> Result<(), Fault>
-        requires { KeepsOthers self.now.state.grammar self.now.state.words lexicon.now forms.now.texts }
-        ensures keep { OnOk result (All (λ placed. KeepsMeaning self.now.state.grammar self.now.state.words lexicon.now placed.sentence.tokens)
+    // Whether each sentence keeps its meaning by another grammar and other words. Where forms are given, those without them do.
+    pub(crate) fn unbroken(
+        &self,
+        grammar: &CheckedGrammar,
+        lexicon: &Lexicon,
+        forms: Option<&Forms>,
+    ) -> Result<(), Fault>
+        requires labelled { IsTrue (is_labelled grammar.now) }
+        requires others { PassesOthers self.now.state.grammar self.now.state.words grammar.now lexicon.now (option_copied forms) }
+        ensures keep { OnOk result (All (λ placed. KeepsMeaning self.now.state.grammar self.now.state.words grammar.now lexicon.now placed.sentence.tokens)
             (all_placed self.now.state.articles)) }
-        ensures refused { IfErr result (IsFault (IsBroken self.now.state lexicon.now)) }
+        ensures refused { IfErr result (IsFault (TellsBroken self.now.state grammar.now lexicon.now)) }
     {
         let found = first_broken(
             self.alloc,
-            &self.grammar,
+            grammar,
             lexicon,
             forms,
             self.articles.as_slice(),
@@ -176,22 +185,22 @@ fn taken_by(alloc: Global, lexicon: &Lexicon, text: &Text, owner: WordId) -> Res
     }
 }
 
-// The place of the first sentence that doesn't keep its meaning by other words. Those without the old forms of a word keep it,
-// and aren't read again.
+// The place of the first sentence that doesn't keep its meaning by another grammar and other words. Where forms are given, those
+// without them keep it, and aren't read again.
 fn first_broken(
     alloc: Global,
     grammar: &CheckedGrammar,
     lexicon: &Lexicon,
-    forms: &Forms,
+    forms: Option<&Forms>,
     articles: &[Article],
     senses: &[Senses],
 ) -> Result<Option<Place>, Memory>
     requires labelled { IsTrue (is_labelled grammar.now) }
     requires short { All (λ sentence. length sentence.tokens ≤ MOST_TOKENS) (sentences_in articles.now) }
     requires few { All (λ article. length article.sentences ≤ most_sentences) articles.now }
-    ensures { IfOk result (λ found. (words : Listed) → MeanInEach grammar.now words articles.now senses.now
-        → KeepsOthers grammar.now words lexicon.now forms.now.texts
-        → FindsPlace (λ placed. KeepsMeaning grammar.now words lexicon.now placed.sentence.tokens) (all_placed articles.now) found) }
+    ensures { IfOk result (λ found. (g : GrammarParts) (words : Listed) → MeanInEach g words articles.now senses.now
+        → PassesOthers g words grammar.now lexicon.now (option_copied forms.entry)
+        → FindsPlace (λ placed. KeepsMeaning g words grammar.now lexicon.now placed.sentence.tokens) (all_placed articles.now) found) }
 {
     let count = articles.len().min(senses.len());
     for place in 0..count {
@@ -210,21 +219,21 @@ fn first_broken(
     Ok(None)
 }
 
-// The place of the first sentence of an article that doesn't keep its meaning by other words.
+// The place of the first sentence of an article that doesn't keep its meaning by another grammar and other words.
 fn broken_in(
     alloc: Global,
     grammar: &CheckedGrammar,
     lexicon: &Lexicon,
-    forms: &Forms,
+    forms: Option<&Forms>,
     article: &Article,
     senses: &[Sense],
 ) -> Result<Option<Place>, Memory>
     requires labelled { IsTrue (is_labelled grammar.now) }
     requires short { All (λ sentence. length sentence.tokens ≤ MOST_TOKENS) article.now.sentences }
     requires few { length article.now.sentences ≤ most_sentences }
-    ensures { IfOk result (λ found. (words : Listed) → MeanEach grammar.now words article.now.sentences (meanings_in senses.now)
-        → KeepsOthers grammar.now words lexicon.now forms.now.texts
-        → FindsPlace (λ placed. KeepsMeaning grammar.now words lexicon.now placed.sentence.tokens) (placed_in article.now) found) }
+    ensures { IfOk result (λ found. (g : GrammarParts) (words : Listed) → MeanEach g words article.now.sentences (meanings_in senses.now)
+        → PassesOthers g words grammar.now lexicon.now (option_copied forms.entry)
+        → FindsPlace (λ placed. KeepsMeaning g words grammar.now lexicon.now placed.sentence.tokens) (placed_in article.now) found) }
 {
     let sentences = article.sentences.as_slice();
     let count = sentences.len().min(senses.len());
@@ -240,27 +249,37 @@ fn broken_in(
     Ok(None)
 }
 
-// Whether a sentence of this meaning keeps it by other words, where those without the old forms of a word do.
+// Whether a sentence of this meaning keeps it by another grammar and other words, where those without the forms do.
 fn keeps(
     alloc: Global,
     grammar: &CheckedGrammar,
     lexicon: &Lexicon,
-    forms: &Forms,
+    forms: Option<&Forms>,
     sentence: &Sentence,
     sense: &Sense,
 ) -> Result<bool, Memory>
     requires labelled { IsTrue (is_labelled grammar.now) }
     requires short { length sentence.now.tokens ≤ MOST_TOKENS }
-    ensures { IfOk result (λ kept. (words : Listed) → Means grammar.now words sentence.now.tokens (meaning_shown sense.now)
-        → KeepsOthers grammar.now words lexicon.now forms.now.texts
-        → MatchBool kept (KeepsMeaning grammar.now words lexicon.now sentence.now.tokens)
-        (KeepsMeaning grammar.now words lexicon.now sentence.now.tokens → ⊥)) }
+    ensures { IfOk result (λ kept. (g : GrammarParts) (words : Listed) → Means g words sentence.now.tokens (meaning_shown sense.now)
+        → PassesOthers g words grammar.now lexicon.now (option_copied forms.entry)
+        → MatchBool kept (KeepsMeaning g words grammar.now lexicon.now sentence.now.tokens)
+        (KeepsMeaning g words grammar.now lexicon.now sentence.now.tokens → ⊥)) }
 {
-    if !has_form(sentence, forms) {
+    if is_passed(sentence, forms) {
         return Ok(true);
     }
     match sense_of(alloc, grammar, lexicon, &sentence.tokens)? {
         Some(found) => Ok(same_sense(&found, sense)),
         None => Ok(false),
+    }
+}
+
+// Whether forms are given and the sentence has none of them.
+fn is_passed(sentence: &Sentence, forms: Option<&Forms>) -> bool
+    ensures { result ≡ option_map_or (λ forms. not (list_any (is_among forms.texts) sentence.now.tokens)) (option_copied forms.entry) false }
+{
+    match forms {
+        Some(forms) => !has_form(sentence, forms),
+        None => false,
     }
 }

@@ -148,7 +148,7 @@ impl Store {
     pub fn rewording(&self, form: &Text8, texts: &[Text8]) -> Result<Lexicon, Fault>
         ensures step { IfOk result (λ lexicon. Step self.now.state (Request.Reword form.now texts.now) Reply.Reword
             (record self.now.state { words = lexicon })) }
-        ensures keeps { IfOk result (KeepsSentences self.now.state) }
+        ensures keeps { IfOk result (KeepsSentences self.now.state self.now.state.grammar) }
         ensures refused { IfErr result (IsFault (Refuses self.now.state (Request.Reword form.now texts.now))) }
     {
         self.base.rewording(form, texts)
@@ -156,11 +156,34 @@ impl Store {
 
     /// Takes in words by which each sentence keeps its meaning.
     pub fn reworded(&mut self, lexicon: Lexicon)
-        requires { KeepsSentences self.old.state lexicon }
+        requires { KeepsSentences self.old.state self.old.state.grammar lexicon }
         ensures { self.new ≡ record self.old { state = record self.old.state { words = lexicon } } }
     {
         self.remembered.clear();
         self.base.reworded(lexicon);
+    }
+
+    /// The grammar of a text, and the words beside its terminals, if each sentence keeps its meaning by them. Refused are, in this
+    /// order, a text that is no grammar, rules without labels, a grammar with a form of a live word, and one by which a sentence
+    /// has no derivation, or another meaning.
+    pub fn regrounding(&self, text: &Text8) -> Result<(CheckedGrammar, Lexicon), Fault>
+        ensures step { IfOk result (λ made. Step self.now.state (Request.Grammar text.now) Reply.Grammar
+            (record self.now.state { grammar = made.0; words = made.1 })) }
+        ensures labelled { IfOk result (λ made. IsTrue (is_labelled made.0)) }
+        ensures keeps { IfOk result (λ made. KeepsSentences self.now.state made.0 made.1) }
+        ensures refused { IfErr result (IsFault (Refuses self.now.state (Request.Grammar text.now))) }
+    {
+        self.base.regrounding(text)
+    }
+
+    /// Takes in a grammar and words by which each sentence keeps its meaning.
+    pub fn regrounded(&mut self, grammar: CheckedGrammar, lexicon: Lexicon)
+        requires labelled { IsTrue (is_labelled grammar) }
+        requires keeps { KeepsSentences self.old.state grammar lexicon }
+        ensures { self.new ≡ record self.old { state = record self.old.state { grammar = grammar; words = lexicon } } }
+    {
+        self.remembered.clear();
+        self.base.regrounded(grammar, lexicon);
     }
 
     /// The word that has this form, and the words without it, if no sentence needs it. Refused are, in this order, a form that

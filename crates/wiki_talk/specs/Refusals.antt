@@ -1,7 +1,7 @@
 -- The number and the name by which each refusal is told, wherever it is told.
 use Rattle.std.specs.Prelude.{ℕ, List, codes}
 use Rattle.wiki_talk.specs.declared.refusals.Refusal.{Refusal}
-use Rattle.wiki_talk.specs.declared.refusals.Refusal.TheVariants.{NoWord, BadForm, Taken, Reserved, NoPlace, NoSession, Full, Stale, NotOffered, Nothing, Unfinished, NotSentence, InUse, Breaks, BadStatus}
+use Rattle.wiki_talk.specs.declared.refusals.Refusal.TheVariants.{NoWord, BadForm, Taken, Reserved, NoPlace, NoSession, Full, Stale, NotOffered, Nothing, Unfinished, NotSentence, InUse, Breaks, BadStatus, GrammarRefused, Bare}
 
 pub record Named : Type 0 where
   pub number : ℕ
@@ -27,3 +27,5 @@ title_of (NotSentence k menu) = record { number = 12; name = codes "NotSentence"
 title_of (InUse article at) = record { number = 13; name = codes "InUse" }
 title_of (Breaks article at) = record { number = 14; name = codes "Breaks" }
 title_of (BadStatus status) = record { number = 15; name = codes "BadStatus" }
+title_of (GrammarRefused fault at) = record { number = 16; name = codes "GrammarRefused" }
+title_of Bare = record { number = 17; name = codes "Bare" }

@@ -35,11 +35,15 @@ pub enum Refusal {
     NotSentence { k: u32, menu: MenuView },
     /// This place, the first of those that stand against it, needs the word. The article is named by its canonical form.
     InUse { article: Text8, at: u32 },
-    /// With the other forms the sentence of this place, the first such, would have no derivation or another meaning. The
-    /// article is named by its canonical form.
+    /// With the other forms, or by the other grammar, the sentence of this place, the first such, would have no derivation
+    /// or another meaning. The article is named by its canonical form.
     Breaks { article: Text8, at: u32 },
     /// The sentence there has this status.
     BadStatus { status: Status },
+    /// The text is no grammar. The fault is told by its name and by its byte, feature or rule; it is 0 where it has none.
+    GrammarRefused { fault: Text8, at: u32 },
+    /// The rules of the grammar have no labels, so no sentence would have a meaning by it.
+    Bare,
 }
 
 /// The number and the name by which a refusal is told.
@@ -79,6 +83,8 @@ impl Refusal {
             Refusal::InUse { .. } => (13, "InUse"),
             Refusal::Breaks { .. } => (14, "Breaks"),
             Refusal::BadStatus { .. } => (15, "BadStatus"),
+            Refusal::GrammarRefused { .. } => (16, "GrammarRefused"),
+            Refusal::Bare => (17, "Bare"),
         };
         Title { number, name }
     }

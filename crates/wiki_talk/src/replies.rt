@@ -130,6 +130,8 @@ pub enum Reply {
     Refresh,
     /// The session is gone.
     Drop,
+    /// The wiki has its other grammar.
+    Grammar,
     /// The newest change of sentences was taken back. It was one of this article, named by the canonical form of its word.
     Undo {
         article: Text8,

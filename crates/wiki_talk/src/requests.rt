@@ -94,6 +94,10 @@ pub enum Request {
     Drop {
         session: u32,
     },
+    /// Another grammar for the wiki, in the notation.
+    Grammar {
+        text: Text8,
+    },
 }
 
 /// What a line of the input asks: one request to the wiki, or that a change of sentences is taken back or done again.

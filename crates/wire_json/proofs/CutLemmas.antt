@@ -437,6 +437,7 @@ simple_request requests.Words h = (members_of (request_value requests.Words), re
 simple_request (requests.Parse sent) h = (members_of (request_value (requests.Parse sent)), refl, (tt, (tt, tt)))
 simple_request (requests.Reword word forms) h = (members_of (request_value (requests.Reword word forms)), refl, (tt, (AreTexts-texts forms, (tt, tt))))
 simple_request (requests.Unword word) h = (members_of (request_value (requests.Unword word)), refl, (tt, (tt, tt)))
+simple_request (requests.Grammar sent) h = (members_of (request_value (requests.Grammar sent)), refl, (tt, (tt, tt)))
 simple_request (requests.Add article None sent) h = (members_of (request_value (requests.Add article None sent)), refl, (tt, (tt, (tt, tt))))
 simple_request (requests.Add article (Some place) sent) h =
     (members_of (request_value (requests.Add article (Some place) sent)), refl, (tt, (fits place h.numbers, (tt, (tt, tt)))))

@@ -9,7 +9,7 @@ use Rattle.wiki_talk.specs.declared.replies.Reply.TheVariants as replies
 use Rattle.wiki_talk.specs.declared.requests.Request.{Request}
 use Rattle.wiki_talk.specs.declared.requests.Request.TheVariants as requests
 use Rattle.wiki_talk.specs.declared.refusals.Refusal.{Refusal}
-use Rattle.wiki_talk.specs.declared.refusals.Refusal.TheVariants.{NoWord, BadForm, Taken, Reserved, NoPlace, NoSession, Full, Stale, NotOffered, Nothing, Unfinished, NotSentence, InUse, Breaks, BadStatus}
+use Rattle.wiki_talk.specs.declared.refusals.Refusal.TheVariants.{NoWord, BadForm, Taken, Reserved, NoPlace, NoSession, Full, Stale, NotOffered, Nothing, Unfinished, NotSentence, InUse, Breaks, BadStatus, GrammarRefused, Bare}
 use Rattle.wiki_talk.specs.declared.replies.SentenceView.{SentenceView}
 use Rattle.wiki_talk.specs.declared.replies.Meant.{Meant}
 use Rattle.wiki_talk.specs.declared.replies.Meant.TheVariants as meanings
@@ -85,6 +85,8 @@ has_float-refusal (Unfinished menu) = rw (has_float-menu menu) refl
 has_float-refusal (InUse article place) = refl
 has_float-refusal (Breaks article place) = refl
 has_float-refusal (BadStatus status) = refl
+has_float-refusal (GrammarRefused fault place) = refl
+has_float-refusal Bare = refl
 
 pub has_float-reply : (reply : Reply) → has_float (reply_value reply) ≡ false
 has_float-reply replies.Word = refl
@@ -107,6 +109,7 @@ has_float-reply (replies.Menu menu whole shown) = rw (has_float-menu menu) refl
 has_float-reply (replies.Commit article status shown) = has_float-commit article status
 has_float-reply replies.Refresh = refl
 has_float-reply replies.Drop = refl
+has_float-reply replies.Grammar = refl
 has_float-reply (replies.Undo article) = refl
 has_float-reply (replies.Redo article) = refl
 has_float-reply (replies.Refused refusal) = has_float-refusal refusal
@@ -118,6 +121,7 @@ has_float-request requests.Words = refl
 has_float-request (requests.Parse text) = refl
 has_float-request (requests.Reword word forms) = rw (has_float-texts forms) refl
 has_float-request (requests.Unword word) = refl
+has_float-request (requests.Grammar text) = refl
 has_float-request (requests.Add article place text) = has_float-place place _ refl
 has_float-request (requests.Edit article place text) = refl
 has_float-request (requests.Remove article place) = refl

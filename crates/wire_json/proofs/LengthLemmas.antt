@@ -1,5 +1,6 @@
 -- How long the line of a request is.
-use Rattle.std.proofs.Common.{◌≡◌, ℕ, ◌+◌, ◌*◌, ◌<◌, ◌≤◌, Bool, true, false, List, [], ◌∷◌, ◌++◌, length, All, Some, None, decimal, refl, arith}
+use Rattle.std.proofs.Common.{◌≡◌, ℕ, ◌+◌, ◌*◌, ◌<◌, ◌≤◌, Bool, true, false, List, [], ◌∷◌, ◌++◌, length, All, Some, None, decimal, refl, ap, ◌∙◌, arith, nat_le, ltb-true}
+use Rattle.std.proofs.lemmas.Bool.Decides.{nat_tests}
 use Rattle.std.proofs.lemmas.List.{length-append}
 use Rattle.std.proofs.lemmas.List.Elements.{All-head, All-tail}
 use Rattle.json.specs.Print.{escape_byte, quoted}
@@ -15,7 +16,7 @@ use Rattle.wiki_talk.specs.declared.requests.Request.TheVariants as requests
 use Rattle.wiki_talk.specs.Kinds.{kind_name}
 use Rattle.wire_json.specs.Values.{line_text, texts_items}
 use Rattle.wire_json.specs.Requests.{request_value, request_line}
-use Rattle.wire_json.specs.Told.{texts_of, total, CanBeTold, request_text, IsShortForm, IsShortChange, most_line}
+use Rattle.wire_json.specs.Told.{texts_of, total, CanBeTold, request_text, IsShortForm, IsShortChange, most_line, most_for, fits_line, gives_line}
 use Rattle.wire_json.proofs.TextLemmas.{length-quoted, length-number}
 
 -- ---- the bytes of a value, with one comma too many in each list
@@ -96,6 +97,7 @@ size-request requests.Words h = omega arith
 size-request (requests.Parse text) h = omega (arith, length-quoted text)
 size-request (requests.Reword word forms) h = omega (arith, size-texts forms, length-quoted word)
 size-request (requests.Unword word) h = omega (arith, length-quoted word)
+size-request (requests.Grammar text) h = omega (arith, length-quoted text)
 size-request (requests.Add article None text) h = omega (arith, length-quoted article, length-quoted text)
 size-request (requests.Add article (Some place) text) h = omega (arith, length-quoted article, length-quoted text, digits place h.numbers)
 size-request (requests.Edit article place text) h = omega (arith, length-quoted article, length-quoted text, digits place h.numbers)
@@ -131,34 +133,92 @@ total-forms (form ∷ forms) h =
     let one : length form ≤ LONGEST_TEXT = All-head IsShortForm form forms h in
     omega (arith, one, total-forms forms (All-tail IsShortForm form forms h))
 
-texts-short : (r : Request) → IsShortChange r → 6 * total (texts_of r) + 3 * length (texts_of r) + 50 ≤ most_line
-texts-short (requests.Word kind forms) h = omega (arith, total-forms forms h.0, h.1)
-texts-short (requests.Find word) h = absurd h
-texts-short requests.Words h = absurd h
-texts-short (requests.Parse text) h = absurd h
-texts-short (requests.Reword word forms) h = omega (arith, h.0, total-forms forms h.1.0, h.1.1)
-texts-short (requests.Unword word) h = omega (arith, h)
-texts-short (requests.Add article place text) h = omega (arith, h.0, h.1)
-texts-short (requests.Edit article place text) h = omega (arith, h.0, h.1)
-texts-short (requests.Remove article place) h = omega (arith, h)
-texts-short (requests.Retract article place) h = omega (arith, h)
-texts-short (requests.Reassert article place) h = omega (arith, h)
-texts-short (requests.Read article) h = absurd h
-texts-short (requests.Axioms article place) h = absurd h
-texts-short (requests.Begin article) h = absurd h
-texts-short (requests.Put session text) h = absurd h
-texts-short (requests.Back session) h = absurd h
-texts-short (requests.Menu session) h = absurd h
-texts-short (requests.Commit session) h = absurd h
-texts-short (requests.Refresh session) h = absurd h
-texts-short (requests.Drop session) h = absurd h
+-- a line has one byte more than its text
+size-line : (r : Request) → length (request_line r) ≡ length (request_text r) + 1
+size-line r = rw (request_line-text r) (length-append (request_text r) (10 ∷ []))
 
--- the line of a change whose texts are no longer than those of a wiki
-pub length-change_line : (r : Request) → CanBeTold r → IsShortChange r → length (request_line r) ≤ most_line
-length-change_line r h short = omega (arith, length-request_line r h, texts-short r short)
+-- a line isn't too long exactly where it has at most so many bytes, its newline among them
+line_fits : (r : Request) (line : List ℕ) → line ≡ request_line r → nat_le (length line) MAX_LINE ≡ fits_line r
+line_fits r line is = rw is (grind (arith, nat_tests, size-line r))
+
+-- so it is of a request that gives a grammar
+pub grammar_fits : (r : Request) (text bytes line : List ℕ) → bytes ≡ line → line ≡ request_line r → r ≡ requests.Grammar text
+    → nat_le (length bytes) MAX_LINE ≡ gives_line r
+grammar_fits r text bytes line same is grammar = rw grammar (line_fits (requests.Grammar text) bytes (same ∙ is ∙ ap request_line grammar))
+
+-- the line of a change whose texts are no longer than those of a wiki, or of a grammar that a line can hold
+pub length-change_line : (r : Request) → CanBeTold r → IsShortChange r → length (request_line r) ≤ most_for r
+length-change_line (requests.Word kind forms) h short = omega (arith, length-request_line (requests.Word kind forms) h, total-forms forms short.0, short.1)
+length-change_line (requests.Find word) h short = absurd short
+length-change_line requests.Words h short = absurd short
+length-change_line (requests.Parse text) h short = absurd short
+length-change_line (requests.Reword word forms) h short =
+    omega (arith, length-request_line (requests.Reword word forms) h, short.0, total-forms forms short.1.0, short.1.1)
+length-change_line (requests.Unword word) h short = omega (arith, length-request_line (requests.Unword word) h, short)
+length-change_line (requests.Grammar text) h short = omega (arith, size-line (requests.Grammar text), ltb-true _ _ short)
+length-change_line (requests.Add article place text) h short = omega (arith, length-request_line (requests.Add article place text) h, short.0, short.1)
+length-change_line (requests.Edit article place text) h short = omega (arith, length-request_line (requests.Edit article place text) h, short.0, short.1)
+length-change_line (requests.Remove article place) h short = omega (arith, length-request_line (requests.Remove article place) h, short)
+length-change_line (requests.Retract article place) h short = omega (arith, length-request_line (requests.Retract article place) h, short)
+length-change_line (requests.Reassert article place) h short = omega (arith, length-request_line (requests.Reassert article place) h, short)
+length-change_line (requests.Read article) h short = absurd short
+length-change_line (requests.Axioms article place) h short = absurd short
+length-change_line (requests.Begin article) h short = absurd short
+length-change_line (requests.Put session text) h short = absurd short
+length-change_line (requests.Back session) h short = absurd short
+length-change_line (requests.Menu session) h short = absurd short
+length-change_line (requests.Commit session) h short = absurd short
+length-change_line (requests.Refresh session) h short = absurd short
+length-change_line (requests.Drop session) h short = absurd short
+
+-- no line has more bytes than the longest
+pub most-line : (r : Request) → most_for r ≤ MAX_LINE
+most-line (requests.Word kind forms) = omega arith
+most-line (requests.Find word) = omega arith
+most-line requests.Words = omega arith
+most-line (requests.Parse text) = omega arith
+most-line (requests.Reword word forms) = omega arith
+most-line (requests.Unword word) = omega arith
+most-line (requests.Grammar text) = omega arith
+most-line (requests.Add article place text) = omega arith
+most-line (requests.Edit article place text) = omega arith
+most-line (requests.Remove article place) = omega arith
+most-line (requests.Retract article place) = omega arith
+most-line (requests.Reassert article place) = omega arith
+most-line (requests.Read article) = omega arith
+most-line (requests.Axioms article place) = omega arith
+most-line (requests.Begin article) = omega arith
+most-line (requests.Put session text) = omega arith
+most-line (requests.Back session) = omega arith
+most-line (requests.Menu session) = omega arith
+most-line (requests.Commit session) = omega arith
+most-line (requests.Refresh session) = omega arith
+most-line (requests.Drop session) = omega arith
+
+-- and none has fewer than that of a change of words or sentences
+pub least_most : (r : Request) → most_line ≤ most_for r
+least_most (requests.Word kind forms) = omega arith
+least_most (requests.Find word) = omega arith
+least_most requests.Words = omega arith
+least_most (requests.Parse text) = omega arith
+least_most (requests.Reword word forms) = omega arith
+least_most (requests.Unword word) = omega arith
+least_most (requests.Grammar text) = omega arith
+least_most (requests.Add article place text) = omega arith
+least_most (requests.Edit article place text) = omega arith
+least_most (requests.Remove article place) = omega arith
+least_most (requests.Retract article place) = omega arith
+least_most (requests.Reassert article place) = omega arith
+least_most (requests.Read article) = omega arith
+least_most (requests.Axioms article place) = omega arith
+least_most (requests.Begin article) = omega arith
+least_most (requests.Put session text) = omega arith
+least_most (requests.Back session) = omega arith
+least_most (requests.Menu session) = omega arith
+least_most (requests.Commit session) = omega arith
+least_most (requests.Refresh session) = omega arith
+least_most (requests.Drop session) = omega arith
 
 -- it is no line that is too long
 pub change-fits : (r : Request) → CanBeTold r → IsShortChange r → length (request_text r) < MAX_LINE
-change-fits r h short =
-    let size : length (request_line r) ≡ length (request_text r) + 1 = rw (request_line-text r) (length-append (request_text r) (10 ∷ [])) in
-    omega (arith, length-change_line r h short, size)
+change-fits r h short = omega (arith, length-change_line r h short, most-line r, size-line r)

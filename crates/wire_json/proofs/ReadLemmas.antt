@@ -20,7 +20,7 @@ use Rattle.wiki_talk.specs.declared.requests.Request.TheVariants as requests
 use Rattle.wiki_talk.specs.Kinds.{kind_name, kind_named}
 use Rattle.wire_json.specs.Values.{texts_items}
 use Rattle.wire_json.specs.Requests as wire
-use Rattle.wire_json.specs.Requests.{request_value, request_in, request_named, texts_in, place_value, session_value, word_in, find_in, parse_in, reword_in, unword_in, add_in, place_in, edit_in, read_in, open_in, type_in}
+use Rattle.wire_json.specs.Requests.{request_value, request_in, request_named, texts_in, place_value, session_value, word_in, find_in, parse_in, reword_in, unword_in, grammar_in, add_in, place_in, edit_in, read_in, open_in, type_in}
 use Rattle.wire_json.specs.Told.{CanBeTold, request_text}
 use Rattle.wire_json.proofs.TextLemmas.{IsTold, AreTold, tokens-compact_text}
 
@@ -89,6 +89,7 @@ value_comes_back requests.Words h = refl
 value_comes_back (requests.Parse text) h = refl
 value_comes_back (requests.Reword word forms) h = rw (of_items-texts forms) refl
 value_comes_back (requests.Unword word) h = refl
+value_comes_back (requests.Grammar text) h = refl
 value_comes_back (requests.Add article None text) h = refl
 value_comes_back (requests.Add article (Some place) text) h = rw (number_comes_back place (fits place h.numbers)) refl
 value_comes_back (requests.Edit article place text) h = rw (number_comes_back place (fits place h.numbers)) refl
@@ -107,13 +108,14 @@ value_comes_back (requests.Drop session) h = rw (number_comes_back session (fits
 
 -- the value is that of the request
 pub request_comes_back : (r : Request) → CanBeTold r → request_in (request_value r) ≡ Some r
-unfolding request_named word_in find_in parse_in reword_in unword_in add_in place_in edit_in read_in open_in type_in
+unfolding request_named word_in find_in parse_in reword_in unword_in grammar_in add_in place_in edit_in read_in open_in type_in
 request_comes_back (requests.Word kind forms) h = rw (kind_comes_back kind, texts_in-texts forms) refl
 request_comes_back (requests.Find word) h = refl
 request_comes_back requests.Words h = refl
 request_comes_back (requests.Parse text) h = refl
 request_comes_back (requests.Reword word forms) h = rw (texts_in-texts forms) refl
 request_comes_back (requests.Unword word) h = refl
+request_comes_back (requests.Grammar text) h = refl
 request_comes_back (requests.Add article None text) h = refl
 request_comes_back (requests.Add article (Some place) text) h = rw (le-leb place LAST_NUMBER (fits place h.numbers)) refl
 request_comes_back (requests.Edit article place text) h = rw (le-leb place LAST_NUMBER (fits place h.numbers)) refl
@@ -170,6 +172,8 @@ IsTold-request (requests.Reword word forms) h = (
 )
 IsTold-request (requests.Unword word) h =
     (key (codes "do") refl, key (codes "unword") refl, (key (codes "word") refl, first word [] h.texts, tt))
+IsTold-request (requests.Grammar text) h =
+    (key (codes "do") refl, key (codes "grammar") refl, (key (codes "text") refl, first text [] h.texts, tt))
 IsTold-request (requests.Add article None text) h = (
   key (codes "article") refl,
   first article (text ∷ []) h.texts,
@@ -221,6 +225,7 @@ shallow requests.Words = omega arith
 shallow (requests.Parse text) = omega arith
 shallow (requests.Reword word forms) = rw (depth-texts forms) (omega arith)
 shallow (requests.Unword word) = omega arith
+shallow (requests.Grammar text) = omega arith
 shallow (requests.Add article None text) = omega arith
 shallow (requests.Add article (Some place) text) = omega arith
 shallow (requests.Edit article place text) = omega arith

@@ -4,7 +4,7 @@ use Rattle.serde_json.specs.Data.{Data, Members, boolean, string, number, unsign
 use Rattle.wiki_talk.specs.declared.replies.Reply.{Reply}
 use Rattle.wiki_talk.specs.declared.replies.Reply.TheVariants as replies
 use Rattle.wiki_talk.specs.declared.refusals.Refusal.{Refusal}
-use Rattle.wiki_talk.specs.declared.refusals.Refusal.TheVariants.{NoWord, BadForm, Taken, Reserved, NoPlace, NoSession, Full, Stale, NotOffered, Nothing, Unfinished, NotSentence, InUse, Breaks, BadStatus}
+use Rattle.wiki_talk.specs.declared.refusals.Refusal.TheVariants.{NoWord, BadForm, Taken, Reserved, NoPlace, NoSession, Full, Stale, NotOffered, Nothing, Unfinished, NotSentence, InUse, Breaks, BadStatus, GrammarRefused, Bare}
 use Rattle.wiki_talk.specs.declared.replies.Meant.{Meant}
 use Rattle.wiki_talk.specs.declared.replies.Meant.TheVariants as meanings
 use Rattle.wiki_talk.specs.declared.statuses.Status.{Status}
@@ -38,6 +38,9 @@ refusal_members (InUse article place) titled =
 refusal_members (Breaks article place) titled =
     member (codes "article") (string article) (member (codes "at") (number (unsigned place)) (titled no_members))
 refusal_members (BadStatus status) titled = titled (member (codes "status") (string (status_name status)) no_members)
+refusal_members (GrammarRefused fault place) titled =
+    member (codes "at") (number (unsigned place)) (member (codes "fault") (string fault) (titled no_members))
+refusal_members Bare titled = titled no_members
 
 abbrev pub refusal_value : Refusal → Data
 refusal_value refusal = object (refusal_members refusal (told (title_of refusal).number (title_of refusal).name))
@@ -120,6 +123,7 @@ reply_value (replies.Menu menu whole shown) = object
 reply_value (replies.Commit article status shown) = commit_value article status
 reply_value replies.Refresh = done_value (codes "refresh")
 reply_value replies.Drop = done_value (codes "drop")
+reply_value replies.Grammar = done_value (codes "grammar")
 reply_value (replies.Undo article) = told_article_value (codes "undo") article
 reply_value (replies.Redo article) = told_article_value (codes "redo") article
 reply_value (replies.Refused refusal) = refusal_value refusal

@@ -66,6 +66,10 @@ reword_in value = option_and_then (λ word. option_map (requests.Reword word) (t
 unfoldable pub unword_in : Data → Option Request
 unword_in value = option_map requests.Unword (text_at (codes "word") value)
 
+-- another grammar: `text`
+unfoldable pub grammar_in : Data → Option Request
+grammar_in value = option_map requests.Grammar (text_at (codes "text") value)
+
 -- a new sentence: `article`, `text` and, if it isn't to stand at the end, `at`
 unfoldable pub add_in : Data → Option Request
 add_in value = option_and_then (λ article. option_and_then (λ place. option_map (requests.Add article place) (text_at (codes "text") value))
@@ -134,6 +138,7 @@ rows =
     ∷ record { name = codes "parse"; request = parse_in }
     ∷ record { name = codes "reword"; request = reword_in }
     ∷ record { name = codes "unword"; request = unword_in }
+    ∷ record { name = codes "grammar"; request = grammar_in }
     ∷ record { name = codes "add"; request = add_in }
     ∷ record { name = codes "edit"; request = edit_in }
     ∷ record { name = codes "remove"; request = remove_in }
@@ -219,6 +224,9 @@ request_value (requests.Reword word forms) = object
 request_value (requests.Unword word) = object
     (member (codes "do") (string (codes "unword"))
     (member (codes "word") (string word) no_members))
+request_value (requests.Grammar text) = object
+    (member (codes "do") (string (codes "grammar"))
+    (member (codes "text") (string text) no_members))
 request_value (requests.Add article place text) = object
     (member (codes "article") (string article)
     (with_place place

@@ -1,9 +1,9 @@
 -- What a request tells in its line: its texts and its numbers.
-use Rattle.std.specs.Prelude.{◌≡◌, ◌⊎◌, ℕ, zero, suc, ◌+◌, ◌*◌, ◌≤◌, List, [], ◌∷◌, ◌++◌, length, All, Some, None, Option, IsUtf8, ◌==◌, nat_lt, if◌then◌else◌}
+use Rattle.std.specs.Prelude.{◌≡◌, ◌⊎◌, ℕ, zero, suc, ◌+◌, ◌*◌, ◌≤◌, List, [], ◌∷◌, ◌++◌, length, All, Some, None, Option, IsUtf8, ◌==◌, nat_lt, if◌then◌else◌, Bool, true, IsTrue}
 use Rattle.serde_json.specs.Written.{compact_text}
 use Rattle.wiki_base.specs.declared.text.TheConstants.{LONGEST_TEXT}
 use Rattle.wiki_base.specs.declared.tokens.TheConstants.{MOST_TOKENS}
-use Rattle.wiki_io.specs.declared.limits.TheConstants.{NEWLINE}
+use Rattle.wiki_io.specs.declared.limits.TheConstants.{NEWLINE, MAX_LINE}
 use Rattle.lexicon.specs.declared.words.TheConstants.{LAST_NUMBER}
 use Rattle.wiki_talk.specs.declared.requests.Request.{Request}
 use Rattle.wiki_talk.specs.declared.requests.LineRequest.{LineRequest}
@@ -19,6 +19,7 @@ texts_of requests.Words = []
 texts_of (requests.Parse text) = text ∷ []
 texts_of (requests.Reword word forms) = word ∷ forms
 texts_of (requests.Unword word) = word ∷ []
+texts_of (requests.Grammar text) = text ∷ []
 texts_of (requests.Add article place text) = article ∷ text ∷ []
 texts_of (requests.Edit article place text) = article ∷ text ∷ []
 texts_of (requests.Remove article place) = article ∷ []
@@ -42,6 +43,7 @@ numbers_of requests.Words = []
 numbers_of (requests.Parse text) = []
 numbers_of (requests.Reword word forms) = []
 numbers_of (requests.Unword word) = []
+numbers_of (requests.Grammar text) = []
 numbers_of (requests.Add article None text) = []
 numbers_of (requests.Add article (Some place) text) = place ∷ []
 numbers_of (requests.Edit article place text) = place ∷ []
@@ -72,7 +74,16 @@ total (text ∷ texts) = length text + total texts
 abbrev pub request_text : Request → List ℕ
 request_text request = compact_text (request_value request)
 
--- ---- changes of words and sentences
+-- the line of a request isn't too long
+abbrev pub fits_line : Request → Bool
+fits_line request = nat_lt (length (request_text request)) MAX_LINE
+
+-- if the request gives a grammar, its line isn't too long
+abbrev pub gives_line : Request → Bool
+gives_line (requests.Grammar text) = fits_line (requests.Grammar text)
+gives_line request = true
+
+-- ---- changes of the grammar, of words and of sentences
 
 -- a form of a word
 abbrev pub IsShortForm : List ℕ → Type 0
@@ -86,11 +97,12 @@ AreShortForms forms = All IsShortForm forms × (length forms ≤ 3)
 abbrev pub IsShortSentence : List ℕ → Type 0
 IsShortSentence sentence = length sentence ≤ MOST_TOKENS * (LONGEST_TEXT + 1)
 
--- the request is a change of words or sentences, and its texts are no longer than those of a wiki
+-- the request is a change of words or sentences whose texts are no longer than those of a wiki, or one of the grammar that a line can hold
 abbrev pub IsShortChange : Request → Type 0
 IsShortChange (requests.Word kind forms) = AreShortForms forms
 IsShortChange (requests.Reword word forms) = IsShortForm word × AreShortForms forms
 IsShortChange (requests.Unword word) = IsShortForm word
+IsShortChange (requests.Grammar text) = IsTrue (fits_line (requests.Grammar text))
 IsShortChange (requests.Add article place text) = IsShortForm article × IsShortSentence text
 IsShortChange (requests.Edit article place text) = IsShortForm article × IsShortSentence text
 IsShortChange (requests.Remove article place) = IsShortForm article
@@ -102,9 +114,14 @@ IsShortChange request = ⊥
 abbrev pub IsToldChange : Request → Type 0
 IsToldChange request = CanBeTold request × IsShortChange request
 
--- the most bytes of such a change's line, its newline among them
+-- the most bytes of the line of a change of words or sentences, its newline among them
 abbrev pub most_line : ℕ
 most_line = 16040
+
+-- the same of such a change: the line of a grammar is as long as a line may be
+abbrev pub most_for : Request → ℕ
+most_for (requests.Grammar text) = MAX_LINE
+most_for request = most_line
 
 -- the bytes are whole lines, or none
 abbrev pub EndsLine : List ℕ → Type 0

@@ -11,4 +11,4 @@ mod values;
 mod write;
 
 pub use read::{read_line_request, read_request};
-pub use write::{bad_request_line, reply_line, request_line};
+pub use write::{bad_request_line, gives_line, reply_line, request_line};

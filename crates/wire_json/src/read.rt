@@ -1,7 +1,7 @@
 // The request of a line.
 ghost use Rattle.std.specs.Prelude.{◌≡◌, IfOk, option_map};
 ghost use Rattle.serde_json.specs.View.{view, items_view};
-ghost use Rattle.wire_json.specs.Requests.{text_at, texts_at, texts_in, word_in, find_in, words_in, parse_in, reword_in, unword_in, request_named, request_in, request_of, change_named, line_request_in, line_request_of};
+ghost use Rattle.wire_json.specs.Requests.{text_at, texts_at, texts_in, word_in, find_in, words_in, parse_in, reword_in, unword_in, grammar_in, request_named, request_in, request_of, change_named, line_request_in, line_request_of};
 
 use crate::sentences::{
     add_from, axioms_from, edit_from, read_from, reassert_from, remove_from, retract_from,
@@ -87,6 +87,7 @@ fn request_named(alloc: Global, value: &Value, name: &str) -> Result<Option<Requ
         "parse" => parse_from(alloc, value),
         "reword" => reword_from(alloc, value),
         "unword" => unword_from(alloc, value),
+        "grammar" => grammar_from(alloc, value),
         "add" => add_from(alloc, value),
         "edit" => edit_from(alloc, value),
         "remove" => remove_from(alloc, value),
@@ -171,6 +172,18 @@ fn unword_from(alloc: Global, value: &Value) -> Result<Option<Request>, Memory>
     match text_of(value, "word") {
         Some(word) => Ok(Some(Request::Unword {
             word: Text8::from_str(alloc, word)?,
+        })),
+        None => Ok(None),
+    }
+}
+
+#[tactic(auto, unfolding(crate::specs::Requests::grammar_in))]
+fn grammar_from(alloc: Global, value: &Value) -> Result<Option<Request>, Memory>
+    ensures { IfOk result (λ request. request ≡ grammar_in (view value.now)) }
+{
+    match text_of(value, "text") {
+        Some(text) => Ok(Some(Request::Grammar {
+            text: Text8::from_str(alloc, text)?,
         })),
         None => Ok(None),
     }

@@ -23,7 +23,7 @@ pub(crate) fn refusal_value(alloc: Global, refusal: &Refusal) -> Result<Value, M
         }
         Refusal::NoSession { session } => session_value(alloc, title, *session),
         Refusal::Stale { revision } => stale_value(alloc, title, *revision),
-        Refusal::Nothing => nothing_value(alloc, title),
+        Refusal::Nothing | Refusal::Bare => nothing_value(alloc, title),
         Refusal::Unfinished { menu } => unfinished_value(alloc, title, menu),
         Refusal::BadForm { which } => which_value(alloc, title, *which),
         Refusal::Taken { text, word } => taken_value(alloc, title, text, word),
@@ -34,6 +34,7 @@ pub(crate) fn refusal_value(alloc: Global, refusal: &Refusal) -> Result<Value, M
             place_value(alloc, title, article, *at)
         }
         Refusal::BadStatus { status } => status_value(alloc, title, *status),
+        Refusal::GrammarRefused { fault, at } => fault_value(alloc, title, fault, *at),
     }
 }
 
@@ -99,6 +100,14 @@ fn status_value(alloc: Global, title: Title, status: Status) -> Result<Value, Me
 {
     let status = status.name();
     Ok(json!(in alloc; {"name": title.name, "refused": title.number, "status": status})?)
+}
+
+fn fault_value(alloc: Global, title: Title, fault: &Text8, at: u32) -> Result<Value, Memory>
+    ensures { IfOk result (λ value. view value ≡ object (member (codes "at") (number (unsigned at))
+        (member (codes "fault") (string fault.now) (told title.number title.name.now no_members)))) }
+{
+    let fault = fault.as_str();
+    Ok(json!(in alloc; {"at": at, "fault": fault, "name": title.name, "refused": title.number})?)
 }
 
 fn session_value(alloc: Global, title: Title, session: u32) -> Result<Value, Memory>

@@ -5,6 +5,7 @@ ghost use Rattle.serde_json.specs.View.{view};
 ghost use Rattle.wire_json.specs.Replies.{reply_value, done_value, tokens_value, told_article_value, reply_line, bad_request_value, bad_request_line};
 ghost use Rattle.wire_json.specs.Values.{menu_value, sentences_items};
 ghost use Rattle.wire_json.specs.Requests.{request_value, request_line, place_value, session_value};
+ghost use Rattle.wire_json.specs.Told.{gives_line};
 
 use crate::line::line_of;
 use crate::refusals::refusal_value;
@@ -14,6 +15,7 @@ use lexicon::Kind;
 use serde_json::{Value, json};
 use std::alloc::Global;
 use wiki_base::{Memory, Text8};
+use wiki_io::MAX_LINE;
 use wiki_talk::{BAD_REQUEST, MenuView, Reply, Request, SentenceView, WordView, kind_name};
 
 /// The line of a reply, with its newline.
@@ -35,6 +37,19 @@ pub fn request_line(alloc: Global, request: &Request) -> Result<Text8, Memory>
     ensures { IfOk result (λ line. line ≡ request_line request.now) }
 {
     line_of(alloc, &request_value(alloc, request)?)
+}
+
+/// If the request gives a grammar, its line isn't too long (`MAX_LINE`).
+pub fn gives_line(alloc: Global, request: &Request) -> Result<bool, Memory>
+    ensures { IfOk result (λ gives. gives ≡ gives_line request.now) }
+{
+    match request {
+        Request::Grammar { .. } => {
+            let line = request_line(alloc, request)?;
+            Ok(line.as_bytes().len() <= MAX_LINE)
+        }
+        _ => Ok(true),
+    }
 }
 
 fn bad_request_value(alloc: Global) -> Result<Value, Memory>
@@ -78,6 +93,7 @@ fn reply_value(alloc: Global, reply: &Reply) -> Result<Value, Memory>
         } => commit_value(alloc, article.as_str(), *status),
         Reply::Refresh => done_value(alloc, "refresh"),
         Reply::Drop => done_value(alloc, "drop"),
+        Reply::Grammar => done_value(alloc, "grammar"),
         Reply::Undo { article } => told_article_value(alloc, "undo", article),
         Reply::Redo { article } => told_article_value(alloc, "redo", article),
         Reply::Refused(refusal) => refusal_value(alloc, refusal),
@@ -164,6 +180,10 @@ fn request_value(alloc: Global, request: &Request) -> Result<Value, Memory>
         Request::Unword { word } => {
             let word = word.as_str();
             Ok(json!(in alloc; {"do": "unword", "word": word})?)
+        }
+        Request::Grammar { text } => {
+            let text = text.as_str();
+            Ok(json!(in alloc; {"do": "grammar", "text": text})?)
         }
         Request::Add { article, at, text } => add_request_value(alloc, article, *at, text),
         Request::Edit { article, at, text } => edit_request_value(alloc, article, *at, text),

@@ -1,4 +1,4 @@
-use Rattle.std.proofs.Common.{◌≡◌, drop, map, fold, []}
+use Rattle.std.proofs.Common.{◌≡◌, drop, map, fold}
 use Rattle.http_front.specs.Routes.{route_shown, with_route, table}
 use Rattle.http_front.proofs.routes.router.Given as goal
 

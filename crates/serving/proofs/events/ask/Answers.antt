@@ -1,4 +1,3 @@
-use Rattle.std.proofs.Common.{refl}
 use Rattle.serving.proofs.EventLemmas.{front_of_line, whole_line, same_response}
 use Rattle.serving.proofs.events.ask.Goals as goal
 

@@ -1,4 +1,4 @@
-use Rattle.std.proofs.Common.{◌≡◌, refl, sym, subst, ◌∙◌}
+use Rattle.std.proofs.Common.{refl, sym, subst, ◌∙◌}
 use Rattle.server.specs.declared.turns.Turn.{Turn}
 use Rattle.server.specs.Taking.{Takes}
 use Rattle.serving.proofs.EventLemmas.{done_waiting, done_own_answer, done_request, cut_request, was_request, same_response}

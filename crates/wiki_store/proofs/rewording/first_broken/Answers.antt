@@ -21,8 +21,7 @@ broken_in-requires-clause-short c =
     all-in-at (λ (s : Sentence). length s.tokens ≤ MOST_TOKENS) c.args.articles.now c.loop-place.place c.index-articles-place.result here c.requires.short
 
 pub returns-then-is_some : goal.returns-then-is_some
-returns-then-is_some c = λ words mean others.
-    let g = c.args.grammar.now in
+returns-then-is_some c = λ g words mean others.
     let place = c.loop-place.place in
     let a = c.index-articles-place.result in
     let own = c.index-senses-place.result in
@@ -32,13 +31,13 @@ returns-then-is_some c = λ words mean others.
     slice_get_at c.args.senses.now place own (omega (arith, c.loop-place-test.true, c.min-count.ensures)) c.index-senses-place.is in
     let each = subst (λ (ms : List Sense). MeanEach g words a.sentences (meanings_in ms)) (sym c.as_slice.ensures)
     (mean_at g words c.args.articles.now c.args.senses.now place a own mean here meant) in
-    found_place (λ placed. KeepsMeaning g words c.args.lexicon.now placed.sentence.tokens) c.args.articles.now place a c.in_ok-found.found here
+    found_place (λ placed. KeepsMeaning g words c.args.grammar.now c.args.lexicon.now placed.sentence.tokens) c.args.articles.now place a c.in_ok-found.found
+    here
     (sym c.is_some.ensures ∙ c.if-is_some.true)
-    (c.in_ok-found.ensures words each others) (c.loop-place.invariant words mean others)
+    (c.in_ok-found.ensures g words each others) (c.loop-place.invariant g words mean others)
 
 pub loop-place-preserved : goal.loop-place-preserved
-loop-place-preserved c = λ words mean others found rest.
-    let g = c.args.grammar.now in
+loop-place-preserved c = λ g words mean others found rest.
     let place = c.loop-place.place in
     let a = c.index-articles-place.result in
     let own = c.index-senses-place.result in
@@ -48,16 +47,15 @@ loop-place-preserved c = λ words mean others found rest.
     slice_get_at c.args.senses.now place own (omega (arith, c.loop-place-test.true, c.min-count.ensures)) c.index-senses-place.is in
     let each = subst (λ (ms : List Sense). MeanEach g words a.sentences (meanings_in ms)) (sym c.as_slice.ensures)
     (mean_at g words c.args.articles.now c.args.senses.now place a own mean here meant) in
-    c.loop-place.invariant words mean others found
-    (next_whole (λ placed. KeepsMeaning g words c.args.lexicon.now placed.sentence.tokens) c.args.articles.now place a found here
-    (passed_place (λ placed. KeepsMeaning g words c.args.lexicon.now placed.sentence.tokens) (placed_in a) c.in_ok-found.found
-    (sym c.is_some.ensures ∙ c.if-is_some.false) (c.in_ok-found.ensures words each others)) rest)
+    c.loop-place.invariant g words mean others found
+    (next_whole (λ placed. KeepsMeaning g words c.args.grammar.now c.args.lexicon.now placed.sentence.tokens) c.args.articles.now place a found here
+    (passed_place (λ placed. KeepsMeaning g words c.args.grammar.now c.args.lexicon.now placed.sentence.tokens) (placed_in a) c.in_ok-found.found
+    (sym c.is_some.ensures ∙ c.if-is_some.false) (c.in_ok-found.ensures g words each others)) rest)
 
 pub returns : goal.returns
-returns c = λ words mean others.
-    let g = c.args.grammar.now in
+returns c = λ g words mean others.
     let many = as_many_lists g words c.args.articles.now c.args.senses.now mean in
     let past : length c.args.articles.now ≤ c.loop-place.place = omega (arith, many, c.loop-place-test.false, c.min-count.ensures) in
-    no_place (λ placed. KeepsMeaning g words c.args.lexicon.now placed.sentence.tokens) (all_placed c.args.articles.now)
-    (c.loop-place.invariant words mean others None
-    (none_left_in (λ placed. KeepsMeaning g words c.args.lexicon.now placed.sentence.tokens) c.args.articles.now c.loop-place.place past))
+    no_place (λ placed. KeepsMeaning g words c.args.grammar.now c.args.lexicon.now placed.sentence.tokens) (all_placed c.args.articles.now)
+    (c.loop-place.invariant g words mean others None
+    (none_left_in (λ placed. KeepsMeaning g words c.args.grammar.now c.args.lexicon.now placed.sentence.tokens) c.args.articles.now c.loop-place.place past))

@@ -16,7 +16,8 @@ loop-session-preserved c =
     let new : Session = record { number = old.number; article = old.article; revision = old.revision; editor = c.in_ok-editor.editor } in
     let more : take (i + 1) items ≡ take i items ++ old ∷ [] =
     take_more items i old c.loop-session-test.true ∙ ap (λ (s : Session). take i items ++ s ∷ []) (sym c.session-item.is) in
-    let pushed : c.push.new.self.items ≡ c.loop-session.sessions.items ++ new ∷ [] = c.in_ok-push.ensures.items in (
+    let pushed : c.push.new.self.items ≡ c.loop-session.sessions.items ++ new ∷ [] =
+    c.in_ok-push.ensures.items ∙ ap (λ (s : Session). c.loop-session.sessions.items ++ s ∷ []) c.with_editor.ensures in (
       subst (λ (xs : List Session). AreRebased g l (all_plain (take (i + 1) items)) (all_plain xs)) (sym pushed)
           (rebased_more g l (take i items) c.loop-session.sessions.items old (take (i + 1) items) more new c.loop-session.invariant.0
           (record { number = refl; article = refl; revision = refl; tokens = c.in_ok-editor.ensures.tokens })),

@@ -55,6 +55,21 @@ returns-in-Unword-clause-step c =
     c.told-in-Unword.result c.told-in-Unword.ensures.told c.unword.ensures.step
     c.unword.ensures.refused c.unword.ensures.kept (λ refusal same. ap (λ (h : Holding). h.state.sessions) same)
 
+pub returns-in-Grammar-clause-memory : goal.returns-in-Grammar-clause-memory
+returns-in-Grammar-clause-memory c = told-keeps (c.reground.new.self ≡ c.args.self.now) c.reground.result c.told-in-Grammar.result
+    c.told-in-Grammar.ensures.memory c.reground.ensures.kept
+
+pub returns-in-Grammar-clause-step : goal.returns-in-Grammar-clause-step
+returns-in-Grammar-clause-step c =
+    pages_step c.args.self.now c.reground.new.self c.args.request.now (requests.Grammar c.in-Grammar.text) c.in-Grammar.is refl c.reground.result
+    c.told-in-Grammar.result c.told-in-Grammar.ensures.told c.reground.ensures.step
+    c.reground.ensures.refused c.reground.ensures.kept (λ refusal same. ap (λ (h : Holding). h.state.sessions) same)
+
+pub returns-in-Grammar-clause-interpretation : goal.returns-in-Grammar-clause-interpretation
+returns-in-Grammar-clause-interpretation c =
+    interpretation_told c.args.self.now c.reground.new.self c.reground.result c.told-in-Grammar.result c.told-in-Grammar.ensures.told
+    c.reground.ensures.interpretation c.reground.ensures.kept
+
 pub returns-in-Begin-clause-interpretation : goal.returns-in-Begin-clause-interpretation
 returns-in-Begin-clause-interpretation c =
     interpretation_told c.args.self.now c.open.new.self c.open.result c.told.result c.told.ensures.told c.open.ensures.interpretation c.open.ensures.kept

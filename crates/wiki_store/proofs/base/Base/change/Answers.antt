@@ -95,3 +95,17 @@ pub returns-in-Reassert-clause-interpretation : goal.returns-in-Reassert-clause-
 returns-in-Reassert-clause-interpretation c =
     told-interpretation c.args.self.now c.reassert.new.self c.reassert.result c.told-in-Reassert.result c.told-in-Reassert.ensures.told
     c.reassert.ensures.interpretation c.reassert.ensures.kept
+
+pub returns-in-Grammar-clause-step : goal.returns-in-Grammar-clause-step
+returns-in-Grammar-clause-step c =
+    told-step c.args.self.now c.reground.new.self c.args.request.now _ c.in-Grammar.is c.reground.result c.told-in-Grammar.result
+    c.told-in-Grammar.ensures.told c.reground.ensures.step c.reground.ensures.refused c.reground.ensures.kept
+
+pub returns-in-Grammar-clause-memory : goal.returns-in-Grammar-clause-memory
+returns-in-Grammar-clause-memory c = told-keeps (c.reground.new.self ≡ c.args.self.now) c.reground.result c.told-in-Grammar.result
+    c.told-in-Grammar.ensures.memory c.reground.ensures.kept
+
+pub returns-in-Grammar-clause-interpretation : goal.returns-in-Grammar-clause-interpretation
+returns-in-Grammar-clause-interpretation c =
+    told-interpretation c.args.self.now c.reground.new.self c.reground.result c.told-in-Grammar.result c.told-in-Grammar.ensures.told
+    c.reground.ensures.interpretation c.reground.ensures.kept

@@ -13,5 +13,6 @@ invariant_of-self c =
       words = c.self.inside.lexicon;
       articles = c.self.inside.articles;
     } in
-    let keeps : KeepsSentences inside c.args.lexicon = subst (λ (h : Holding). KeepsSentences h.state c.args.lexicon) (sym c.self.view_is) c.requires in
+    let keeps : KeepsSentences inside inside.grammar c.args.lexicon =
+    subst (λ (h : Holding). KeepsSentences h.state h.state.grammar c.args.lexicon) (sym c.self.view_is) c.requires in
     (keeps_reworded inside c.self.inside.senses.items c.self.inside.kept c.args.lexicon c.self.invariant.0 keeps, c.self.invariant.1 ∙ sym keeps.last)

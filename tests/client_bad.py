@@ -46,11 +46,11 @@ def part_errors(page, place):
 def refused(page):
     """Each refusal of the wiki is a sentence of its own, and no link of it is empty."""
     names = ["BadRequest", "NoWord", "BadForm", "Taken", "Reserved", "NoPlace", "NoSession", "Full", "Stale", "NotOffered", "Nothing",
-             "Unfinished", "NotSentence", "InUse", "Breaks", "BadStatus"]
+             "Unfinished", "NotSentence", "InUse", "Breaks", "BadStatus", "GrammarRefused", "Bare"]
     cases = [(name, "words") for name in names] + [("Full", which) for which in ("sentences", "sessions", "tokens", "numbers")]
     told = page.browser.wait_script("""const { explain } = await import('/editor/refusals.js');
         const { Trouble } = await import('/editor/api.js');
-        const reply = { text: 'fish', word: 'fish', length: 1, limit: 5, article: 'fish', at: 0, status: 'asserted' };
+        const reply = { text: 'fish', word: 'fish', length: 1, limit: 5, article: 'fish', at: 0, status: 'asserted', fault: 'Syntax' };
         return given[0].map(([name, which]) => explain(new Trouble('refused', 'read',
             { status: 409, reply: { ...reply, name, which: name === 'BadForm' ? 1 : which } })).flat(9).map((it) => it.textContent || it).join(''));""", cases)
     if len(set(told)) != len(cases) or any(not text.endswith(".") or "refused this" in text or "undefined" in text for text in told):

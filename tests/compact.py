@@ -206,6 +206,11 @@ def lines_and_words():
     write("wiki", LONG + lines_of(dict(do="open", article="city"), *(dict(do="type", session=1, text=text) for text in
                                   ["Every", "city", "is", "something", "."]), dict(do="commit", session=1)))
     is_made_short("a session", "wiki")
+    taken = subprocess.run([f"{TOOLS}/grammar", f"{TOOLS}/../grammars/english-more.codeco"], stdout=subprocess.PIPE, check=True).stdout
+    write("wiki", LONG + lines_of(dict(do="grammar", text="text --> ."), add("city", "Every city is a city.")) + taken
+          + lines_of(add("city", "All cities are cities."), change("remove", "city", 1)))
+    is_made_short("a grammar", "wiki")
+    expect("a grammar, the first line", [taken], read("wiki").splitlines(keepends=True)[:1])
     for words in ([], [""], ["wiki", "wiki"], ["wiki", "--budget"], ["wiki", "--budget", "1000000001"], ["wiki", "--steps", "1"]):
         status, said = tool("compact", *words)
         expect(f"the words {words} ({said.strip()})", 2, status)

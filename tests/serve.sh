@@ -1,14 +1,14 @@
 #!/usr/bin/env bash
 # tools/serve as docs/OPERATIONS.md tells it: what it says and when, which signals end what, when the program is started again,
-# and what it does with lines that are no requests, with odd file names, and with a file that is put in place anew. $1 is the
-# program.
+# and what it does with lines that are no requests, with odd file names, with a file that is put in place anew, and with the
+# grammar of a new wiki. $1 is the program.
 set -u
 serve="$(cd "$(dirname "${BASH_SOURCE[0]}")/.." && pwd)/tools/serve"
 PROGRAM="$(readlink -f "$1")"
 export PROGRAM LC_ALL=C
-for command in flock setpriv; do
-    command -v "$command" >/dev/null || { echo "serve: $command is missing (Debian: apt-get install util-linux)"; exit 77; }
-done
+. "$(dirname "${BASH_SOURCE[0]}")/common.sh"
+needs flock setpriv python3
+grammars="$(dirname "$(dirname "$serve")")/grammars"
 WORK="$(mktemp -d)"
 export WORK
 cd "$WORK" || exit 1
@@ -216,8 +216,31 @@ put_in_place() {
     expect "its lines" 2 "$(wc -l <old)"
 }
 
+# A wiki that begins with a grammar has it at each start. Only a file without a line can.
+grammar() {
+    refused "a grammar without a name" 2 "*--grammar takes the name*" begun 127.0.0.1:0 --grammar
+    refused "two grammars" 2 "*--grammar stands twice*" begun 127.0.0.1:0 --grammar one --grammar other
+    [ ! -e begun ] || expect "bad words of a grammar" "no file" "a file"
+    refused "a grammar that isn't there" 1 "*./none can't be read: No such file or directory" begun 127.0.0.1:0 --grammar none
+    echo 'text --> .' >-bad
+    refused "a grammar with a fault" 1 "serve: the wiki doesn't take the grammar of ./-bad, and answers {*\"refused\"*}" begun 127.0.0.1:0 --grammar -bad
+    expect "the file then" 0 "$(wc -c <begun)"
+    start begun --grammar "$grammars/english-more.codeco"
+    expect "a word of the grammar" '{"name":"Reserved","refused":4,"text":"each"}' "$(ask "${word/Bern/each}")"
+    expect "a word" '{"done":"word"}' "$(ask "$word")"
+    stop
+    expect "the first line" same "$(cmp -s <(head -n 1 begun) <("$(dirname "$serve")/grammar" "$grammars/english-more.codeco") && echo same)"
+    expect "the lines" 2 "$(wc -l <begun)"
+    start begun
+    expect "a word of the grammar after a start" '*"Reserved"*' "$(ask "${word/Bern/each}")"
+    stop
+    refused "a grammar behind lines" 1 "serve: begun has lines already, and --grammar begins a new wiki" begun 127.0.0.1:0 --grammar "$grammars/english.codeco"
+    expect "the lines then" 2 "$(wc -l <begun)"
+}
+
 mkfifo pipe
 words
+grammar
 files
 signals "with setpriv,"
 again "with setpriv,"

@@ -1,14 +1,15 @@
 #!/usr/bin/env bash
 # How fast `acewiki replay` adds sentences and answers questions, on the proved program: 50 words and 2,000 drawn sentences
 # (names in relations and classes, chains of classes, universal restrictions, and questions), one request after the other
-# through a pipe, then each article is read twice, and a word that stands in some 100 sentences gets its forms anew.
+# through a pipe, then each article is read twice, and a word that stands in some 100 sentences gets its forms anew. At the
+# end 64 sessions have 40 tokens each, and the wiki gets the text of its grammar, the same with a word more, and one with a fault.
 set -eu
 root="$(cd "$(dirname "${BASH_SOURCE[0]}")/.." && pwd)"
 program="$("$root/bench/program" acewiki)"
-python3 - "$program" "${1:-2000}" "${2:-7}" <<'PY'
+python3 - "$program" "${1:-2000}" "${2:-7}" "$root" <<'PY'
 import json, statistics, subprocess, sys, time
 
-program, count, seed = sys.argv[1], int(sys.argv[2]), int(sys.argv[3])
+program, count, seed, root = sys.argv[1], int(sys.argv[2]), int(sys.argv[3]), sys.argv[4]
 letters = "abcdefghijklmnopqrst"
 nouns, names, verbs = ["noun" + x for x in letters], ["Name" + x for x in letters], ["verb" + x for x in letters[:10]]
 state = seed % 65537
@@ -66,6 +67,13 @@ again = [ask(do="read", article=word)[1] for word in nouns + names + verbs]
 finds = [ask(do="find", word=noun + "s")[1] for noun in nouns * 10]
 words = [ask(do="word", kind="name", forms=[f"New{x}{y}"])[1] for x in letters for y in letters[:10]]
 reply, reword = ask(do="reword", word="noune", forms=["noune", "nounes"])
+line = json.loads(subprocess.run([root + "/tools/grammar", root + "/grammars/english.codeco"], capture_output=True, check=True).stdout)
+for n in range(64):
+    session = ask(do="open", article="nouna")[0]["session"]
+    for token in "Every nouna verbas".split() + "a nouna that verbas".split() * 9:
+        assert "tokens" in ask(do="type", session=session, text=token)[0]
+    ask(do="type", session=session, text="NameA")
+grammars = [ask(do="grammar", text=line["text"] + more) for more in ["", " {mark} rp --> [which].", " text --> ."]]
 print(f"{'sentences':32} {count:10} {statuses}, {answers} answers, {unknown} unknown")
 print(f"{'all requests, s':32} {whole:10.2f}")
 print(f"{'an add, median and worst, ms':32} {statistics.median(adds):10.2f} {max(adds):10.2f}")
@@ -74,4 +82,6 @@ print(f"{'a read again, median and worst, ms':32} {statistics.median(again):8.2f
 print(f"{'a find, median and worst, ms':32} {statistics.median(finds):10.2f} {max(finds):10.2f}")
 print(f"{'a word, median and worst, ms':32} {statistics.median(words):10.2f} {max(words):10.2f}")
 print(f"{'a reword, ms':32} {reword:10.2f} {reply}")
+for name, (reply, took) in zip(["the same grammar, ms", "a grammar more, ms", "a grammar with a fault, ms"], grammars):
+    print(f"{name:32} {took:10.2f} {reply}")
 PY

@@ -1,7 +1,7 @@
 #!/usr/bin/env bash
 # Runs the proved program bench with the words `verdicts time`: it gives verdicts on the 1,600 axioms of 2,000 drawn
 # sentences over 20 names, by a search of 424 rule applications, by a model that is kept and by one that grows out of it, and on
-# axioms with many names or many choices, and says how many microseconds of processor time each verdict alone took.
+# axioms with many names, many choices or large trees of successors, and says how many microseconds of processor time each verdict alone took.
 # Then Konclude (Debian's package `konclude`) checks the same axioms, which the program prints with the words `verdicts owl`, with two
 # threads: the milliseconds of all but the reading of the file, and of all, each the median of three runs, as Konclude tells them.
 set -eu

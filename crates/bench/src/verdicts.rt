@@ -11,6 +11,7 @@ use logic_terms::{Axiom, Axioms, Class, Names};
 use owl_eval::{CheckedModel, Interp};
 use reasoner::{Verdict, verdict};
 use reasoner_examples::are_fit;
+use sharing_examples::{bordering, levels};
 use std::alloc::Global;
 use std::time::CpuClock;
 use tableau::{Outcome, systematic};
@@ -200,6 +201,35 @@ fn bases(alloc: Global, many: bool) -> Result<Vec<Named>, Fault> {
     Ok(bases)
 }
 
+// Axioms whose trees of successors are large, over one name.
+fn shared(alloc: Global, many: bool) -> Result<Vec<Named>, Fault> {
+    let (nouns, more, borders, links) = if many {
+        (24, 101, 200, 1_991)
+    } else {
+        (4, 5, 6, 7)
+    };
+    let mut bases = Vec::new(alloc);
+    add_over_one(
+        &mut bases,
+        "two verbs to each next noun",
+        levels(alloc, nouns, 2)?,
+    )?;
+    add_over_one(&mut bases, "more of them", levels(alloc, more, 2)?)?;
+    add_over_one(&mut bases, "borders", bordering(alloc, borders)?)?;
+    add_over_one(
+        &mut bases,
+        "one verb to each next noun",
+        levels(alloc, links, 1)?,
+    )?;
+    Ok(bases)
+}
+
+fn add_over_one(bases: &mut Vec<Named>, text: &'static str, axioms: Axioms) -> Result<(), Fault> {
+    let alloc = *bases.allocator();
+    let names = Names::from_vec(vec![in alloc; WordId(49)]?);
+    add(bases, text, Base { axioms, names })
+}
+
 // Chains under a transitive relation.
 fn chains(alloc: Global, many: bool) -> Result<Vec<Named>, Fault> {
     let (named, links) = if many { (500, 499) } else { (5, 4) };
@@ -264,6 +294,7 @@ fn print_all<R: Print>(rt: &R, alloc: Global) -> Result<(), Fault> {
     println!(rt; "# sentences")?;
     print_base(rt, alloc, &sentences(alloc, 2_000)?)?;
     print_each(rt, alloc, bases(alloc, true)?)?;
+    print_each(rt, alloc, shared(alloc, true)?)?;
     print_each(rt, alloc, chains(alloc, true)?)
 }
 
@@ -287,6 +318,7 @@ fn tell_all<R: Print + CpuClock>(rt: &R, alloc: Global, timed: bool) -> Result<(
         tell_systematic(rt, alloc, "four times as many", more, timed)?;
     }
     tell_each(rt, alloc, bases(alloc, timed)?, timed)?;
+    tell_each(rt, alloc, shared(alloc, timed)?, timed)?;
     tell_each(rt, alloc, chains(alloc, timed)?, timed)?;
     let behind = hidden(alloc, 10_000)?;
     tell(rt, alloc, "a clash behind 10,000 choices", behind, timed)

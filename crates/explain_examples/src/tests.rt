@@ -1,4 +1,5 @@
 // Which parts are the reason, by the rule that each is left out, from the first on, without which the others still contradict each other.
+use crate::drawing::{Draws, compared, drawn};
 use crate::explaining::explained;
 use explain::Why;
 use reasoner_examples::names_of;
@@ -78,5 +79,27 @@ fn each_part_of_a_reason_has_its_model(rt: HostRuntime) -> Result<(), Fail> {
             assert!(&rt; kept.len() == models.len(), "the models of {expected}");
         }
     }
+    Ok(())
+}
+
+#[test]
+fn reasons_are_those_of_leaving_out_one_by_one(rt: HostRuntime) -> Result<(), Fail> {
+    let alloc = rt.alloc();
+    let names = names_of(alloc, 2)?;
+    let mut draws = Draws::from(7);
+    let mut kept: u64 = 0;
+    let mut undecided: u64 = 0;
+    for number in 0..1000 {
+        let texts = drawn(alloc, &mut draws, number % 2 == 1, 7)?;
+        let compared = compared(alloc, &names, texts.as_slice())?;
+        assert!(&rt; compared.agrees, "the reason of list {number}");
+        kept = kept.saturating_add(compared.kept);
+        undecided = undecided.saturating_add(compared.undecided);
+    }
+    assert!(&rt; kept > 1000, "{kept} parts are kept");
+    assert!(&rt;
+        undecided < kept / 20,
+        "of {undecided} of {kept} kept parts the others have no small model"
+    );
     Ok(())
 }

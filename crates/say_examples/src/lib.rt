@@ -8,6 +8,12 @@ mod generated;
 #[cfg(test)]
 mod grammars;
 #[cfg(test)]
+mod kept;
+#[cfg(test)]
+mod larger;
+#[cfg(test)]
+mod phrases;
+#[cfg(test)]
 mod rounds;
 #[cfg(test)]
 mod saying;

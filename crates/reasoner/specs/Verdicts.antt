@@ -11,7 +11,8 @@ use Rattle.tableau_rules.specs.declared.branch.Branch.{Branch}
 use Rattle.tableau_rules.specs.declared.step.Closed.{Closed}
 use Rattle.tableau_rules.specs.Graph.{Graph}
 use Rattle.tableau_rules.specs.Trees.{Tree, is_closed}
-use Rattle.tableau_bounds.specs.Enough.{enough}
+use Rattle.tableau_bounds.specs.Enough.{enough, enough_without_choices, enough_without_new_nodes}
+use Rattle.tableau_bounds.specs.Fragments.{is_without_unions, is_without_existentials}
 use Rattle.tableau.specs.Ends.{IsCutAt}
 use Rattle.reasoner.specs.declared.answer.Verdict.{Verdict}
 use Rattle.reasoner.specs.declared.answer.Verdict.TheVariants.{Consistent, Inconsistent, Spent}
@@ -57,3 +58,12 @@ pub record IsBelowEnough (claims : List Claim) (names : List WordId) (budget : �
   pub knowledge : Theory
   pub absorbed : IsAbsorbed claims names knowledge
   pub below : budget < enough knowledge
+
+-- where the absorbed knowledge has no unions, a budget is below the bound that ends the search over it
+pub record IsBelowWithoutChoices (claims : List Claim) (names : List WordId) (budget : ℕ) : Type 0 where
+  pub below : (k : Theory) → IsAbsorbed claims names k → IsTrue (is_without_unions k) → budget < enough_without_choices k
+
+-- and where it has no existential restrictions either, below the one that ends that search
+pub record IsBelowWithoutNewNodes (claims : List Claim) (names : List WordId) (budget : ℕ) : Type 0 where
+  pub below : (k : Theory) → IsAbsorbed claims names k → IsTrue (is_without_unions k) → IsTrue (is_without_existentials k)
+      → budget < enough_without_new_nodes k

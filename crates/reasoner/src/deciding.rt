@@ -17,7 +17,8 @@ use std::alloc::Global;
 use tableau::{Outcome, search};
 use wiki_base::Memory;
 
-/// Whether lawful knowledge has a finite model, by a search within `budget` rule applications.
+/// Whether lawful knowledge has a finite model. It is undecided only where the systematic search has not ended within `budget`
+/// rule applications.
 pub fn decide(alloc: Global, k: &Knowledge, budget: u64) -> Result<Decision, Memory>
     requires lawful { IsLawful (theory_of k.now) }
     requires plain { IsTrue (is_plain_theory (theory_of k.now)) }

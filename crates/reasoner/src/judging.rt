@@ -8,7 +8,7 @@ ghost use Rattle.absorb.specs.Mentioned.{are_over};
 ghost use Rattle.owl_eval.specs.Checked.{kept_interp, kept_claims};
 ghost use Rattle.tableau_rules.specs.Shown.{graph_of};
 ghost use Rattle.tableau_rules.specs.Trees.{tree_of};
-ghost use Rattle.reasoner.specs.Verdicts.{IfConsistent, IfInconsistent, IfSpent, IsFiniteModel, HaveNoModel, ClosesAll, SpendsAll, IsBelowEnough};
+ghost use Rattle.reasoner.specs.Verdicts.{IfConsistent, IfInconsistent, IfSpent, IsFiniteModel, HaveNoModel, ClosesAll, SpendsAll, IsBelowEnough, IsBelowWithoutChoices, IsBelowWithoutNewNodes};
 
 use crate::answer::{Decision, Verdict};
 use crate::deciding::decide;
@@ -28,7 +28,8 @@ const MOST_LOOKS: u64 = 10_000_000;
 
 /// Whether axioms over these names have a finite model. The kept interpretation is tried first, and then, from a budget of
 /// 100,000 on, one that grows out of it and one in which successors are shared: where one of them is a model, no search is made.
-/// Else the systematic search over the absorbed knowledge decides, within `budget` rule applications.
+/// Else the search over the absorbed knowledge decides. A spent budget is one by which the systematic search has not ended:
+/// it is below `enough`, and below the far smaller bounds of knowledge without unions, and without existential restrictions.
 pub fn verdict(
     alloc: Global,
     axioms: Axioms,
@@ -44,6 +45,8 @@ pub fn verdict(
     ensures impossible { IfOk result (λ v. IfInconsistent v (λ _. HaveNoModel (claims_of axioms))) }
     ensures spent { IfOk result (λ v. IfSpent v (λ b. SpendsAll (claims_of axioms) names.now budget (graph_of b))) }
     ensures enough { IfOk result (λ v. IfSpent v (λ _. IsBelowEnough (claims_of axioms) names.now budget)) }
+    ensures straight { IfOk result (λ v. IfSpent v (λ _. IsBelowWithoutChoices (claims_of axioms) names.now budget)) }
+    ensures short { IfOk result (λ v. IfSpent v (λ _. IsBelowWithoutNewNodes (claims_of axioms) names.now budget)) }
     ensures not_kept { IfOk result (λ v. IfSpent v (λ _. ¬ IsModel (kept_interp kept.now) (claims_of axioms))) }
 {
     let interp = kept.interp().copy()?;
@@ -72,6 +75,8 @@ fn grown_verdict(
     ensures impossible { IfOk result (λ v. IfInconsistent v (λ _. HaveNoModel (claims_of axioms))) }
     ensures spent { IfOk result (λ v. IfSpent v (λ b. SpendsAll (claims_of axioms) names.now budget (graph_of b))) }
     ensures enough { IfOk result (λ v. IfSpent v (λ _. IsBelowEnough (claims_of axioms) names.now budget)) }
+    ensures straight { IfOk result (λ v. IfSpent v (λ _. IsBelowWithoutChoices (claims_of axioms) names.now budget)) }
+    ensures short { IfOk result (λ v. IfSpent v (λ _. IsBelowWithoutNewNodes (claims_of axioms) names.now budget)) }
 {
     if budget < LEAST_PROPOSING_BUDGET {
         return searched_verdict(alloc, axioms, names, budget);
@@ -98,6 +103,8 @@ fn tried_verdict(
     ensures impossible { IfOk result (λ v. IfInconsistent v (λ _. HaveNoModel (claims_of axioms))) }
     ensures spent { IfOk result (λ v. IfSpent v (λ b. SpendsAll (claims_of axioms) names.now budget (graph_of b))) }
     ensures enough { IfOk result (λ v. IfSpent v (λ _. IsBelowEnough (claims_of axioms) names.now budget)) }
+    ensures straight { IfOk result (λ v. IfSpent v (λ _. IsBelowWithoutChoices (claims_of axioms) names.now budget)) }
+    ensures short { IfOk result (λ v. IfSpent v (λ _. IsBelowWithoutNewNodes (claims_of axioms) names.now budget)) }
 {
     match CheckedModel::new(interp, axioms) {
         Ok(model) => {
@@ -127,6 +134,8 @@ pub fn searched_verdict(
     ensures impossible { IfOk result (λ v. IfInconsistent v (λ _. HaveNoModel (claims_of axioms))) }
     ensures spent { IfOk result (λ v. IfSpent v (λ b. SpendsAll (claims_of axioms) names.now budget (graph_of b))) }
     ensures enough { IfOk result (λ v. IfSpent v (λ _. IsBelowEnough (claims_of axioms) names.now budget)) }
+    ensures straight { IfOk result (λ v. IfSpent v (λ _. IsBelowWithoutChoices (claims_of axioms) names.now budget)) }
+    ensures short { IfOk result (λ v. IfSpent v (λ _. IsBelowWithoutNewNodes (claims_of axioms) names.now budget)) }
 {
     if budget < LEAST_PROPOSING_BUDGET {
         return decided_verdict(alloc, axioms, names, budget);
@@ -161,6 +170,8 @@ fn shared_verdict(
     ensures impossible { IfOk result (λ v. IfInconsistent v (λ _. HaveNoModel (claims_of axioms))) }
     ensures spent { IfOk result (λ v. IfSpent v (λ b. SpendsAll (claims_of axioms) names.now budget (graph_of b))) }
     ensures enough { IfOk result (λ v. IfSpent v (λ _. IsBelowEnough (claims_of axioms) names.now budget)) }
+    ensures straight { IfOk result (λ v. IfSpent v (λ _. IsBelowWithoutChoices (claims_of axioms) names.now budget)) }
+    ensures short { IfOk result (λ v. IfSpent v (λ _. IsBelowWithoutNewNodes (claims_of axioms) names.now budget)) }
 {
     match CheckedModel::new(interp, axioms) {
         Ok(model) => {
@@ -189,6 +200,8 @@ fn decided_verdict(
     ensures impossible { IfOk result (λ v. IfInconsistent v (λ _. HaveNoModel (claims_of axioms))) }
     ensures spent { IfOk result (λ v. IfSpent v (λ b. SpendsAll (claims_of axioms) names.now budget (graph_of b))) }
     ensures enough { IfOk result (λ v. IfSpent v (λ _. IsBelowEnough (claims_of axioms) names.now budget)) }
+    ensures straight { IfOk result (λ v. IfSpent v (λ _. IsBelowWithoutChoices (claims_of axioms) names.now budget)) }
+    ensures short { IfOk result (λ v. IfSpent v (λ _. IsBelowWithoutNewNodes (claims_of axioms) names.now budget)) }
 {
     let k = absorb(alloc, &axioms, names)?;
     match decide(alloc, &k, budget)? {

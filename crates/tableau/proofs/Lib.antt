@@ -1,3 +1,4 @@
 pub mod Bounded
 pub mod Stands
 pub mod WayLemmas
+pub mod Within

@@ -192,8 +192,9 @@ pub begins_shut : (k : Theory) (way : List Taken) (tree : Closed) → Leads k wa
 begins_shut k way tree leads shut = record { leads = leads; shut = shut; same = refl }
 
 pub ends_shut : (k : Theory) (waiting : List OpenChoice) (way : List Taken) (tree : Closed) → way ≡ [] → IsShut k waiting way tree
-    → IsTrue (is_closed k (tree_of tree))
-ends_shut k waiting way tree none shut = subst (λ w. closes k (reached k w).graph (tree_of tree) ≡ true) none shut.shut
+    → IsTrue (is_closed k (tree_of tree)) × (waiting ≡ [])
+ends_shut k waiting way tree none shut =
+    (subst (λ w. closes k (reached k w).graph (tree_of tree) ≡ true) none shut.shut, shut.same ∙ ap (λ w. (reached k w).waiting) none)
 
 module _ (k : Theory) (waiting : List OpenChoice) (old new : List Taken) (t : Taken) (tree : Closed) (trees : List Closed) (popped : old ≡ new ++ t ∷ [])
     (grown : trees ≡ t.trees ++ tree ∷ []) (shut : IsShut k waiting old tree) where
@@ -244,7 +245,7 @@ module _ (k : Theory) (waiting : List OpenChoice) (old new : List Taken) (t : Ta
 -- turns
 pub turns_back : (k : Theory) (s : Searching) (way : List Taken) (t : Turn) → open_choices k s ≡ Some s.waiting → IsBack k s.waiting way t → IsTurn k s way t
 turns_back k s way turn.Finished at back = absurd back
-turns_back k s way (turn.Shut tree) at back = back
+turns_back k s way (turn.Shut tree) at back = (back.0, ap (option_and_then (resumed k)) (at ∙ ap Some back.1))
 turns_back k s way (turn.Forward step) at back = absurd back
 turns_back k s way (turn.Back step trees b) at back = record {
   leads = back.leads;

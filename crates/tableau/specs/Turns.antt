@@ -1,5 +1,5 @@
 -- What a search does next. Only private calls speak of it.
-use Rattle.std.specs.Prelude.{◌≡◌, List, [], ◌∷◌, length, Some, IsTrue}
+use Rattle.std.specs.Prelude.{◌≡◌, List, [], ◌∷◌, length, Some, None, IsTrue}
 use Rattle.logic_terms.specs.Theory.{Theory}
 use Rattle.tableau_rules.specs.declared.step.Closed.{Closed}
 use Rattle.tableau_rules.specs.declared.step.Step.{Step}
@@ -22,7 +22,7 @@ pub record IsNext (k : Theory) (s : Searching) (way : List Taken) (step : Step) 
 
 abbrev pub IsTurn : Theory → Searching → List Taken → Turn → Type 0
 IsTurn k s way Finished = IsTrue (is_finished k s.graph)
-IsTurn k s way (Shut tree) = IsTrue (is_closed k (tree_of tree))
+IsTurn k s way (Shut tree) = IsTrue (is_closed k (tree_of tree)) × (next_search k s ≡ None)
 IsTurn k s way (Forward step) = IsNext k s way step [] s.graph
 IsTurn k s way (Back step trees before) = IsNext k s way step trees (graph_of before)
 
@@ -35,6 +35,6 @@ pub record IsLast (k : Theory) (waiting : List OpenChoice) (way : List Taken) (s
 
 abbrev pub IsBack : Theory → List OpenChoice → List Taken → Turn → Type 0
 IsBack k waiting way Finished = ⊥
-IsBack k waiting way (Shut tree) = IsTrue (is_closed k (tree_of tree))
+IsBack k waiting way (Shut tree) = IsTrue (is_closed k (tree_of tree)) × (waiting ≡ [])
 IsBack k waiting way (Forward step) = ⊥
 IsBack k waiting way (Back step trees before) = IsLast k waiting way step trees (graph_of before)

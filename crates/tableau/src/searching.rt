@@ -4,7 +4,9 @@ ghost use Rattle.logic_terms.specs.Known.{theory_of};
 ghost use Rattle.logic_terms.specs.Plain.{is_plain_theory};
 ghost use Rattle.tableau_rules.specs.Shown.{graph_of};
 ghost use Rattle.tableau_rules.specs.Trees.{tree_of, is_closed};
-ghost use Rattle.tableau_bounds.specs.Enough.{enough};
+ghost use Rattle.tableau_rules.specs.Searching.{IsLonger};
+ghost use Rattle.tableau_bounds.specs.Enough.{enough, enough_without_choices, enough_without_new_nodes};
+ghost use Rattle.tableau_bounds.specs.Fragments.{is_without_unions, is_without_existentials};
 ghost use Rattle.tableau.specs.Ends.{IfFinished, IfClosed, IfSpent, IsEnd, IsCutAt};
 
 use crate::outcome::Outcome;
@@ -18,15 +20,18 @@ use std::alloc::Global;
 use tableau_rules::{clash, start};
 use wiki_base::Memory;
 
-/// Searches for a model of the knowledge, with at most `budget` rule applications: the first applicable step is applied
-/// again and again, choices of `or` are tried from the first on, and a clash goes back to the last open choice. A quick
-/// search comes first, whose ends are tested; where it finds none, the systematic one decides, which alone is ever spent.
-/// docs/REASONING.md has the rules and their order.
+/// Searches for a model of the knowledge. A quick search comes first, whose ends are tested; where it finds none, the
+/// systematic one decides, which alone is ever spent: never by a budget of `enough` applications, by fewer over knowledge
+/// without unions, and by far fewer over knowledge without unions and existential restrictions. docs/REASONING.md has the
+/// rules and their order, and these numbers.
 pub fn search(alloc: Global, k: &Knowledge, budget: u64) -> Result<Outcome, Memory>
     ensures finished { IfOk result (λ o. IfFinished o (λ b. IsEnd (theory_of k.now) (graph_of b))) }
     ensures closed { IfOk result (λ o. IfClosed o (λ tree. IsTrue (is_closed (theory_of k.now) (tree_of tree)))) }
     ensures spent { IfOk result (λ o. IfSpent o (λ b. IsCutAt (theory_of k.now) budget (graph_of b))) }
     ensures enough { IfOk result (λ o. IfSpent o (λ _. IsTrue (is_plain_theory (theory_of k.now)) → budget < enough (theory_of k.now))) }
+    ensures straight { IfOk result (λ o. IfSpent o (λ _. IsTrue (is_without_unions (theory_of k.now)) → budget < enough_without_choices (theory_of k.now))) }
+    ensures short { IfOk result (λ o. IfSpent o (λ _. IsTrue (is_without_unions (theory_of k.now)) → IsTrue (is_without_existentials (theory_of k.now))
+        → budget < enough_without_new_nodes (theory_of k.now))) }
 {
     match quickly(alloc, k, budget)? {
         Some(outcome) => Ok(outcome),
@@ -34,13 +39,15 @@ pub fn search(alloc: Global, k: &Knowledge, budget: u64) -> Result<Outcome, Memo
     }
 }
 
-/// The systematic search alone: the first applicable step is applied again and again, choices of `or` are tried from the
-/// first on, and a clash goes back to the last open choice. An agenda finds that step, and a clash is looked for where the
-/// last step changed something.
+/// The systematic search alone, with at most `budget` rule applications: the first applicable step is applied again and
+/// again, choices of `or` are tried from the first on, and a clash goes back to the last open choice. It is spent exactly
+/// where it has not ended by then. An agenda finds that step, and a clash is looked for where the last step changed something.
 pub fn systematic(alloc: Global, k: &Knowledge, budget: u64) -> Result<Outcome, Memory>
     ensures finished { IfOk result (λ o. IfFinished o (λ b. IsEnd (theory_of k.now) (graph_of b))) }
     ensures closed { IfOk result (λ o. IfClosed o (λ tree. IsTrue (is_closed (theory_of k.now) (tree_of tree)))) }
     ensures spent { IfOk result (λ o. IfSpent o (λ b. IsCutAt (theory_of k.now) budget (graph_of b))) }
+    ensures finished_within { IfOk result (λ o. IfFinished o (λ _. ¬ IsLonger (theory_of k.now) budget)) }
+    ensures closed_within { IfOk result (λ o. IfClosed o (λ _. ¬ IsLonger (theory_of k.now) budget)) }
 {
     let mut way = List::new(alloc);
     let mut b = start(alloc, k)?;

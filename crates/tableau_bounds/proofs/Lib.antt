@@ -11,6 +11,7 @@ pub mod Powers
 pub mod Rank
 pub mod SearchBound
 pub mod Stepping
+pub mod Straight
 pub mod Subsets
 pub mod Sums
 pub mod Ways

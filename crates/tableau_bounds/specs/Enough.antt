@@ -52,3 +52,11 @@ most_nodes k = length (start k).nodes * (class_count k + 1) ^ (2 ^ class_count k
 -- than m choices
 abbrev pub enough : Theory → ℕ
 enough k = (class_count k + 1) ^ (most_nodes k * (2 * class_count k + 1))
+
+-- so many end a search over knowledge without unions: it has one way, and each of its steps adds a class, an edge or a node
+abbrev pub enough_without_choices : Theory → ℕ
+enough_without_choices k = most_nodes k * (2 * class_count k + 1)
+
+-- and so many where there are no existential restrictions either, since no node is ever made
+abbrev pub enough_without_new_nodes : Theory → ℕ
+enough_without_new_nodes k = length (start k).nodes * (2 * class_count k + 1)

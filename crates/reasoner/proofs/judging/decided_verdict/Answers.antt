@@ -10,6 +10,7 @@ use Rattle.tableau.specs.Ends.{IsCutAt}
 use Rattle.tableau_bounds.proofs.Laws.{search_bounded}
 use Rattle.reasoner.specs.Decisions.{IfModel, IfTree, IfUndecided}
 use Rattle.reasoner.specs.Verdicts.{IsFiniteModel}
+use Rattle.reasoner.proofs.OneKnowledge.{below_without_choices, below_without_new_nodes}
 use Rattle.reasoner.proofs.judging.decided_verdict.Goals as goal
 
 pub checked-requires : goal.checked-requires
@@ -40,3 +41,15 @@ returns-in-Undecided-clause-enough c =
       absorbed = c.in_ok-k.ensures.exact;
       below = search_bounded k (c.in_ok-k.ensures.plain c.requires.plain) c.args.budget cut.longer;
     }
+
+pub returns-in-Undecided-clause-straight : goal.returns-in-Undecided-clause-straight
+returns-in-Undecided-clause-straight c =
+    let k = theory_of c.in_ok-k.k in
+    let cut = subst (λ d. IfUndecided d (λ b. IsCutAt k c.args.budget (graph_of b))) c.in-Undecided.is c.in_ok-interp.ensures.undecided in
+    record { below = below_without_choices (claims_of c.args.axioms) c.args.names.now k c.in_ok-k.ensures.exact c.args.budget cut.longer }
+
+pub returns-in-Undecided-clause-short : goal.returns-in-Undecided-clause-short
+returns-in-Undecided-clause-short c =
+    let k = theory_of c.in_ok-k.k in
+    let cut = subst (λ d. IfUndecided d (λ b. IsCutAt k c.args.budget (graph_of b))) c.in-Undecided.is c.in_ok-interp.ensures.undecided in
+    record { below = below_without_new_nodes (claims_of c.args.axioms) c.args.names.now k c.in_ok-k.ensures.exact c.args.budget cut.longer }

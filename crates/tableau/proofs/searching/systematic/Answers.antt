@@ -7,6 +7,7 @@ use Rattle.tableau.specs.Turns.{IsTurn}
 use Rattle.tableau.specs.Ways.{Leads, reached, chosen}
 use Rattle.tableau.proofs.Stands.{after_calm, next_agenda, moved}
 use Rattle.tableau.proofs.WayLemmas.{ends_at, cut_forward, cut_back, searched_on}
+use Rattle.tableau.proofs.Within.{finished_within, shut_within}
 use Rattle.tableau.proofs.searching.systematic.Goals as goal
 use Rattle.tableau.proofs.searching.systematic.Goals.{in-Forward+in_ok-b-in-Forward+in_ok-note-in-Forward, in-Back+in_ok-b-in-Back+in_ok-agenda-in-Back}
 
@@ -87,3 +88,33 @@ returns-clause-spent c =
     cut_back (theory_of c.args.k.now) c.loop-spent._spent c.args.budget c.loop-spent.way c.next_turn-2.new.way (graph_of c.loop-spent.b)
     c.in_ok-next_turn-2.field-0 c.in-Back-2.field-0 c.in-Back-2.field-1 c.in-Back-2.field-2 (omega arith) c.loop-spent.invariant.so_far
     c.loop-spent.invariant.here c.in_ok-next_turn-2.ensures.turn c.in-Back-2.is
+
+pub returns-in-Finished-clause-finished_within : goal.returns-in-Finished-clause-finished_within
+returns-in-Finished-clause-finished_within c =
+    finished_within (theory_of c.args.k.now) c.loop-spent._spent c.args.budget c.loop-spent.way c.next_turn.new.way c.in_ok-next_turn.field-0
+    c.loop-spent.invariant.so_far c.in_ok-next_turn.ensures.turn (omega arith) c.in-Finished.is
+
+pub returns-in-Finished-2-clause-finished_within : goal.returns-in-Finished-2-clause-finished_within
+returns-in-Finished-2-clause-finished_within c =
+    finished_within (theory_of c.args.k.now) c.loop-spent._spent c.args.budget c.loop-spent.way c.next_turn-2.new.way c.in_ok-next_turn-2.field-0
+    c.loop-spent.invariant.so_far c.in_ok-next_turn-2.ensures.turn (omega arith) c.in-Finished-2.is
+
+pub returns-in-Shut-clause-closed : goal.returns-in-Shut-clause-closed
+returns-in-Shut-clause-closed c =
+    let k = theory_of c.args.k.now in
+    (subst (IsTurn k (reached k c.loop-spent.way) c.next_turn.new.way) c.in-Shut.is c.in_ok-next_turn.ensures.turn).0
+
+pub returns-in-Shut-clause-closed_within : goal.returns-in-Shut-clause-closed_within
+returns-in-Shut-clause-closed_within c =
+    shut_within (theory_of c.args.k.now) c.loop-spent._spent c.args.budget c.loop-spent.way c.next_turn.new.way c.in_ok-next_turn.field-0
+    c.loop-spent.invariant.so_far c.in_ok-next_turn.ensures.turn (omega arith) c.in-Shut.tree c.in-Shut.is
+
+pub returns-in-Shut-2-clause-closed : goal.returns-in-Shut-2-clause-closed
+returns-in-Shut-2-clause-closed c =
+    let k = theory_of c.args.k.now in
+    (subst (IsTurn k (reached k c.loop-spent.way) c.next_turn-2.new.way) c.in-Shut-2.is c.in_ok-next_turn-2.ensures.turn).0
+
+pub returns-in-Shut-2-clause-closed_within : goal.returns-in-Shut-2-clause-closed_within
+returns-in-Shut-2-clause-closed_within c =
+    shut_within (theory_of c.args.k.now) c.loop-spent._spent c.args.budget c.loop-spent.way c.next_turn-2.new.way c.in_ok-next_turn-2.field-0
+    c.loop-spent.invariant.so_far c.in_ok-next_turn-2.ensures.turn (omega arith) c.in-Shut-2.tree c.in-Shut-2.is

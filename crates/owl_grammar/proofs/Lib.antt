@@ -1,0 +1,11 @@
+mod Machine
+mod Numbers
+mod Words
+mod Readings
+mod Counts
+mod Stacks
+mod States
+mod Found
+mod Goes
+mod Refusals
+mod Stops

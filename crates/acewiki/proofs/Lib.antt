@@ -7,3 +7,4 @@ pub mod StatusLemmas
 pub mod OptionLemmas
 pub mod FormLemmas
 pub mod RetellLemmas
+pub mod FileLemmas

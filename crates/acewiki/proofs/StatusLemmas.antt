@@ -1,16 +1,18 @@
 -- What a command has done when it ends so, and why it ends.
-use Rattle.std.proofs.Common.{◌≡◌, ◌↔◌, ℕ, ◌≤◌, List, length, Option, Some, None, refl, sym, ap, subst, ◌∙◌, arith}
+use Rattle.std.proofs.Common.{◌≡◌, ◌↔◌, ℕ, ◌<◌, ◌≤◌, List, length, Option, Some, None, refl, sym, ap, subst, ◌∙◌, arith}
 use Rattle.std.specs.Prelude.{option_map, IfSome}
 use Rattle.std.specs.Io.KnownBytes.{Consumes}
 use Rattle.std.proofs.lemmas.List.{length-append}
 use Rattle.wiki_io.specs.declared.links.Event.{Event}
 use Rattle.wiki_io.specs.Faults.{Rose}
+use Rattle.wiki_io.specs.declared.limits.TheConstants.{MAX_INPUT}
+use Rattle.owl_intake.specs.declared.input.TheConstants.{MOST_BYTES}
 use Rattle.wiki_io.specs.Lines.{InputLine}
 use Rattle.acewiki.specs.declared.command.Command.{Command}
 use Rattle.acewiki.specs.declared.command.Outcome.{Outcome}
 use Rattle.acewiki.specs.declared.command.Outcome.TheVariants as outcomes
-use Rattle.acewiki.specs.Command.{Asked, replay, serve, make, help, say, why, asked_by, command_of}
-use Rattle.acewiki.specs.Theorem.{World, EndsReading, ReadsLines, EndsServing, EndsRetelling, MakesSummary, WritesHelp, IsSaid, IsWhy, Does, IsWithin, HasCause, Performs}
+use Rattle.acewiki.specs.Command.{Asked, replay, serve, make, help, say, export, check, why, asked_by, command_of}
+use Rattle.acewiki.specs.Theorem.{World, EndsReading, ReadsLines, EndsServing, EndsRetelling, MakesSummary, WritesHelp, IsSaid, IsFile, IsWhy, Does, most_input, IsWithin, HasCause, Performs}
 use Rattle.acewiki.specs.Wiki.{ace_wiki}
 
 -- ---- the command
@@ -69,6 +71,9 @@ not_usage (make count seed budget) before after does = does.0
 not_usage help before after does = does.0
 not_usage (say budget) before after does =
     no_retelling (IsSaid does.0.last.wiki) does.0.read_so before.output.bytes after.output.bytes does.0.ends
+not_usage (export budget) before after does =
+    no_retelling (IsFile does.0.last.wiki) does.0.read_so before.output.bytes after.output.bytes does.0.ends
+not_usage (check budget) before after does = does.0.ends
 not_usage (why article at name budget) before after does =
     no_retelling (IsWhy budget article at name does.0.last.wiki) does.0.read_so before.output.bytes after.output.bytes does.0.ends
 
@@ -85,15 +90,19 @@ usage_of (Some command) outcome before after does = (
 
 -- ---- why
 
--- the input isn't too large where it is told to be within the bound
-not_within : (left left_after : Option (List ℕ)) (lines : List InputLine) → ReadsLines left outcomes.TooMuch left_after lines → ¬ IsWithin left
-not_within left left_after lines reads within =
-    let source : Consumes (Some within.0) left_after reads.read = subst (λ l. Consumes l left_after reads.read) within.1 reads.source in
-    omega (arith, reads.ends, within.2, read_few within.0 reads.read left_after source)
-  where
-    read_few : (bytes read : List ℕ) (l : Option (List ℕ)) → Consumes (Some bytes) l read → length read ≤ length bytes
-    read_few bytes read None consumes = absurd consumes
-    read_few bytes read (Some rest) consumes = omega (arith, ap length consumes, length-append read rest)
+-- what was read is no more than the input had
+read_few : (bytes read : List ℕ) (l : Option (List ℕ)) → Consumes (Some bytes) l read → length read ≤ length bytes
+read_few bytes read None consumes = absurd consumes
+read_few bytes read (Some rest) consumes = omega (arith, ap length consumes, length-append read rest)
+
+-- the input isn't too large where it is told to be within a bound
+not_above : (most : ℕ) (left left_after : Option (List ℕ)) (read : List ℕ) → Consumes left left_after read → most < length read → ¬ IsWithin most left
+not_above most left left_after read consumes above within =
+    let source : Consumes (Some within.0) left_after read = subst (λ l. Consumes l left_after read) within.1 consumes in
+    omega (arith, above, within.2, read_few within.0 read left_after source)
+
+not_within : (left left_after : Option (List ℕ)) (lines : List InputLine) → ReadsLines left outcomes.TooMuch left_after lines → ¬ IsWithin MAX_INPUT left
+not_within left left_after lines reads within = not_above MAX_INPUT left left_after reads.read reads.source reads.ends within
 
 serving_too_much : {S K L : Type 0} (read_so : Outcome) (address : List ℕ) (events : List Event) (most : ℕ) (before after : World S K L)
     → EndsServing read_so outcomes.TooMuch address events most before after → read_so ≡ outcomes.TooMuch
@@ -117,12 +126,12 @@ retelling_too_much IsText outcomes.Memory taken taken_after ends = absurd ends
 
 -- the input isn't too large where it is told to be within the bound, whatever of its lines came
 not_within_so : (left left_after : Option (List ℕ)) (read_so : Outcome) (lines : List InputLine) → ReadsLines left read_so left_after lines
-    → read_so ≡ outcomes.TooMuch → ¬ IsWithin left
+    → read_so ≡ outcomes.TooMuch → ¬ IsWithin MAX_INPUT left
 not_within_so left left_after read_so lines reads is =
     not_within left left_after lines (subst (λ (o : Outcome). ReadsLines left o left_after lines) is reads)
 
 too_much_of : {S K L : Type 0} (command : Option Asked) (before after : World S K L) → Does command outcomes.TooMuch before after
-    → ¬ IsWithin before.input.bytes
+    → ¬ IsWithin (most_input command) before.input.bytes
 too_much_of None before after does within = cc does.0
 too_much_of (Some (replay budget)) before after does within =
     not_within before.input.bytes after.input.bytes does.0.lines does.0.reads within
@@ -136,6 +145,11 @@ too_much_of (Some help) before after does within = absurd does.0
 too_much_of (Some (say budget)) before after does within =
     not_within_so before.input.bytes after.input.bytes does.0.read_so does.0.lines does.0.reads
     (retelling_too_much (IsSaid does.0.last.wiki) does.0.read_so before.output.bytes after.output.bytes does.0.ends) within
+too_much_of (Some (export budget)) before after does within =
+    not_within_so before.input.bytes after.input.bytes does.0.read_so does.0.lines does.0.reads
+    (retelling_too_much (IsFile does.0.last.wiki) does.0.read_so before.output.bytes after.output.bytes does.0.ends) within
+too_much_of (Some (check budget)) before after does within =
+    not_above MOST_BYTES before.input.bytes after.input.bytes does.0.read does.0.source does.0.ends.0 within
 too_much_of (Some (why article at name budget)) before after does within =
     not_within_so before.input.bytes after.input.bytes does.0.read_so does.0.lines does.0.reads
     (retelling_too_much (IsWhy budget article at name does.0.last.wiki) does.0.read_so before.output.bytes after.output.bytes does.0.ends) within
@@ -143,7 +157,7 @@ too_much_of (Some (why article at name budget)) before after does within =
 cause_of : {S K L : Type 0} (command : Option Asked) (outcome : Outcome) (before after : World S K L) → Does command outcome before after
     → (outcome ≡ outcomes.ReadFault → Rose before.input.faults after.input.faults)
     → (outcome ≡ outcomes.WriteFault → Rose before.output.faults after.output.faults)
-    → (outcome ≡ outcomes.LinkFault → Rose before.link.faults after.link.faults) → HasCause outcome before after
+    → (outcome ≡ outcomes.LinkFault → Rose before.link.faults after.link.faults) → HasCause command outcome before after
 cause_of command outcomes.Done before after does read write link = tt
 cause_of command outcomes.Usage before after does read write link = tt
 cause_of command outcomes.ReadFault before after does read write link = read refl
@@ -163,7 +177,7 @@ performed words command outcome before after is does read write link =
     record {
       usage = usage_of (command_of words) outcome before after asked_for;
       does = asked_for;
-      cause = cause_of command outcome before after does read write link;
+      cause = cause_of (command_of words) outcome before after asked_for read write link;
     }
 
 -- ---- ends that a command hasn't

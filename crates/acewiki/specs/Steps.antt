@@ -9,6 +9,8 @@ use Rattle.wiki_talk.specs.Turns.{Exchange}
 use Rattle.serving.specs.declared.serving.Served.{Served}
 use Rattle.serving.specs.declared.serving.Served.TheVariants as served
 use Rattle.serving.specs.Events.{Outside, Ended}
+use Rattle.owl_intake.specs.declared.input.CutShort.{CutShort}
+use Rattle.owl_intake.specs.declared.input.CutShort.TheVariants as cut
 use Rattle.making.specs.declared.making.Made.{Made}
 use Rattle.making.specs.declared.making.Made.TheVariants as made
 use Rattle.acewiki.specs.declared.command.Outcome.{Outcome}
@@ -46,6 +48,12 @@ EndsWriting (Ok text) outcomes.Done taken taken_after = Appends taken taken_afte
 EndsWriting (Ok text) outcomes.WriteFault taken taken_after = (n : ℕ) × (n ≤ length text) × Appends taken taken_after (take n text)
 EndsWriting (Err none) outcomes.Memory taken taken_after = Appends taken taken_after []
 EndsWriting made outcome taken taken_after = ⊥
+
+-- how the program ends where the input was not read to its end
+abbrev pub cut_outcome : CutShort → Outcome
+cut_outcome cut.ReadFault = outcomes.ReadFault
+cut_outcome cut.TooMuch = outcomes.TooMuch
+cut_outcome cut.Memory = outcomes.Memory
 
 -- how the program ends where making ends so
 abbrev pub made_outcome : Made → Outcome

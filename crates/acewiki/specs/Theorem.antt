@@ -20,9 +20,12 @@ use Rattle.making.specs.Making.{Makes}
 use Rattle.turning.specs.Laws.{IsRun, TokensAreOwn, UndoGivesBack, RedoGivesBack}
 use Rattle.acewiki.specs.declared.command.Outcome.{Outcome}
 use Rattle.acewiki.specs.declared.command.Outcome.TheVariants.{Done, Usage, ReadFault, WriteFault, LinkFault, TooMuch, Memory}
+use Rattle.owl_intake.specs.declared.input.TheConstants.{MOST_BYTES}
+use Rattle.owl_intake.specs.Checked.{TellsCheck}
+use Rattle.retelling.specs.Files.{TellsFile}
 use Rattle.retelling.specs.Saying.{SaysAll}
 use Rattle.retelling.specs.Why.{TellsWhy}
-use Rattle.acewiki.specs.Command.{Asked, replay, serve, make, help, say, why, command_of, status_of, words_of, help_text}
+use Rattle.acewiki.specs.Command.{Asked, replay, serve, make, help, say, export, check, why, command_of, status_of, words_of, help_text}
 use Rattle.acewiki.specs.Completeness.{DoesWhatIsFree}
 use Rattle.acewiki.specs.Standing.{StandsAsRead, WritesShortLines}
 use Rattle.acewiki.specs.Lines.{asked, StepsLines, reply_lines}
@@ -223,7 +226,7 @@ EndsRetelling IsText TooMuch TooMuch taken taken_after = Appends taken taken_aft
 EndsRetelling IsText Memory Memory taken taken_after = Appends taken taken_after []
 EndsRetelling IsText read_so outcome taken taken_after = ⊥
 
--- `say` and `why`: the lines that were read were stepped in one run of the plain wiki, and a text about the wiki as that leaves it was
+-- `say`, `export` and `why`: the lines that were read were stepped in one run of the plain wiki, and a text about the wiki as that leaves it was
 -- written.
 pub record Retells (IsText : Holding → List ℕ → Type 0) (first : Recalling) (left taken : Option (List ℕ)) (outcome : Outcome)
     (left_after taken_after : Option (List ℕ)) : Type 0 where
@@ -239,9 +242,36 @@ pub record Retells (IsText : Holding → List ℕ → Type 0) (first : Recalling
 abbrev pub IsSaid : Holding → List ℕ → Type 0
 IsSaid wiki text = SaysAll wiki.state.pages text
 
+-- `export`: the file of the words and of all that the wiki knows
+abbrev pub IsFile : Holding → List ℕ → Type 0
+IsFile wiki text = TellsFile wiki.state.pages text
+
 -- `why`: what is told of the sentence at a place of an article, or of that and a name
 abbrev pub IsWhy : ℕ → List ℕ → ℕ → Option (List ℕ) → Holding → List ℕ → Type 0
 IsWhy budget article at name wiki text = TellsWhy wiki.state.pages budget article at name text
+
+-- ---- files
+
+-- How a command ends that reads the input as a file and writes a text about it: at the end of a file of at most `MOST_BYTES` bytes the
+-- text was written, or a front of it where a write failed. Nothing was written where a read failed before, where one byte more was
+-- read, or where there was no memory.
+abbrev pub EndsOnFile : (List ℕ → List ℕ → Type 0) → Outcome → List ℕ → Option (List ℕ) → Option (List ℕ) → Option (List ℕ) → Type 0
+EndsOnFile IsText Done read left taken taken_after =
+    IsAtEnd left × (length read ≤ MOST_BYTES) × ((text : List ℕ) × IsText read text × Appends taken taken_after text)
+EndsOnFile IsText WriteFault read left taken taken_after =
+    IsAtEnd left × (length read ≤ MOST_BYTES)
+    × ((text : List ℕ) × IsText read text × ((n : ℕ) × (n ≤ length text) × Appends taken taken_after (take n text)))
+EndsOnFile IsText ReadFault read left taken taken_after = (length read ≤ MOST_BYTES) × Appends taken taken_after []
+EndsOnFile IsText TooMuch read left taken taken_after = (MOST_BYTES < length read) × Appends taken taken_after []
+EndsOnFile IsText Memory read left taken taken_after = (length read ≤ MOST_BYTES) × Appends taken taken_after []
+EndsOnFile IsText outcome read left taken taken_after = ⊥
+
+-- `check`: bytes of the input were read as a file, and a text about it was written
+pub record TellsOfFile (IsText : List ℕ → List ℕ → Type 0) (left taken : Option (List ℕ)) (outcome : Outcome)
+    (left_after taken_after : Option (List ℕ)) : Type 0 where
+  pub read : List ℕ
+  pub source : Consumes left left_after read
+  pub ends : EndsOnFile IsText outcome read left_after taken taken_after
 
 -- ---- the program
 
@@ -257,28 +287,37 @@ Does (Some help) outcome before after =
     WritesHelp outcome before.output.bytes after.output.bytes × (after.input ≡ before.input) × (after.link ≡ before.link)
 Does (Some (say budget)) outcome before after =
     Retells IsSaid (new_wiki budget) before.input.bytes before.output.bytes outcome after.input.bytes after.output.bytes × (after.link ≡ before.link)
+Does (Some (export budget)) outcome before after =
+    Retells IsFile (new_wiki budget) before.input.bytes before.output.bytes outcome after.input.bytes after.output.bytes × (after.link ≡ before.link)
+Does (Some (check budget)) outcome before after =
+    TellsOfFile (TellsCheck budget) before.input.bytes before.output.bytes outcome after.input.bytes after.output.bytes × (after.link ≡ before.link)
 Does (Some (why article at name budget)) outcome before after =
     Retells (IsWhy budget article at name) (new_wiki budget) before.input.bytes before.output.bytes outcome after.input.bytes after.output.bytes
     × (after.link ≡ before.link)
 
--- the source told no more than `MAX_INPUT` bytes
-abbrev pub IsWithin : Option (List ℕ) → Type 0
-IsWithin left = (bytes : List ℕ) × (left ≡ Some bytes) × (length bytes ≤ MAX_INPUT)
+-- the most bytes that the input of a command may have
+abbrev pub most_input : Option Asked → ℕ
+most_input (Some (check budget)) = MOST_BYTES
+most_input other = MAX_INPUT
+
+-- the source told no more than so many bytes
+abbrev pub IsWithin : ℕ → Option (List ℕ) → Type 0
+IsWithin most left = (bytes : List ℕ) × (left ≡ Some bytes) × (length bytes ≤ most)
 
 -- Why it ended so: a fault came only where it was counted, and the input is too large only where it isn't within the bound. So a command
 -- doesn't give up by itself, unless for memory.
-abbrev pub HasCause : {S K L : Type 0} → Outcome → World S K L → World S K L → Type 0
-HasCause ReadFault before after = Rose before.input.faults after.input.faults
-HasCause WriteFault before after = Rose before.output.faults after.output.faults
-HasCause LinkFault before after = Rose before.link.faults after.link.faults
-HasCause TooMuch before after = ¬ IsWithin before.input.bytes
-HasCause outcome before after = ⊤
+abbrev pub HasCause : {S K L : Type 0} → Option Asked → Outcome → World S K L → World S K L → Type 0
+HasCause command ReadFault before after = Rose before.input.faults after.input.faults
+HasCause command WriteFault before after = Rose before.output.faults after.output.faults
+HasCause command LinkFault before after = Rose before.link.faults after.link.faults
+HasCause command TooMuch before after = ¬ IsWithin (most_input command) before.input.bytes
+HasCause command outcome before after = ⊤
 
 -- the command that the words are was carried out up to this outcome, which is `Usage` exactly where they are none
 pub record Performs {S K L : Type 0} (words : List (List ℕ)) (outcome : Outcome) (before after : World S K L) : Type 0 where
   pub usage : (outcome ≡ Usage) ↔ (command_of words ≡ None)
   pub does : Does (command_of words) outcome before after
-  pub cause : HasCause outcome before after
+  pub cause : HasCause (command_of words) outcome before after
 
 -- a message was written whole, or a front part of it where the sink's faults rose
 abbrev pub Tells : {E : Type 0} → List ℕ → Stream E → Stream E → Type 0

@@ -1,6 +1,6 @@
 // The command line: which words are a command, and how the program ends.
 ghost use Rattle.std.specs.Prelude.{◌≡◌, None, Some, option_map, if◌then◌else◌};
-ghost use Rattle.acewiki.specs.Command.{asked_by, command_of, given_by, has_budget_alone, replay_with, serve_of, serve_with, make_of, make_counted, make_seeded, make_with, help_of, say_with, why_of, why_about, why_at, why_with, is_address, begins_with_hyphen, status_of, words_of};
+ghost use Rattle.acewiki.specs.Command.{asked_by, command_of, given_by, has_budget_alone, replay_with, serve_of, serve_with, make_of, make_counted, make_seeded, make_with, help_of, say_with, export_with, check_with, why_of, why_about, why_at, why_with, is_address, begins_with_hyphen, status_of, words_of};
 ghost use Rattle.acewiki.specs.declared.command.Outcome.TheVariants.{Memory as out_of_memory};
 
 use crate::forms::form_of;
@@ -34,6 +34,14 @@ pub enum Command<'a> {
     Say {
         budget: u64,
     },
+    /// Steps through the lines of the input, and then writes all that the wiki knows as an ontology.
+    Export {
+        budget: u64,
+    },
+    /// Reads the input as an ontology, and tells whether what it says has a finite model.
+    Check {
+        budget: u64,
+    },
     /// Steps through the lines of the input, and then tells why a sentence isn't asserted, or why a name answers a question.
     Why {
         article: &'a str,
@@ -63,6 +71,12 @@ impl Command<'_> {
         }
         if name.as_slice() == b"say".as_slice() {
             return say_with(Options::from_words(words)?);
+        }
+        if name.as_slice() == b"export".as_slice() {
+            return export_with(Options::from_words(words)?);
+        }
+        if name.as_slice() == b"check".as_slice() {
+            return check_with(Options::from_words(words)?);
         }
         if name.as_slice() == b"why".as_slice() {
             return why_of(words);
@@ -165,6 +179,28 @@ fn say_with<'a>(options: Options<'a>) -> Option<Command<'a>>
     })
 }
 
+fn export_with<'a>(options: Options<'a>) -> Option<Command<'a>>
+    ensures { option_map asked_by result ≡ export_with (given_by options.entry) }
+{
+    if !has_budget_alone(options) {
+        return None;
+    }
+    Some(Command::Export {
+        budget: options.budget.unwrap_or(DEFAULT_BUDGET),
+    })
+}
+
+fn check_with<'a>(options: Options<'a>) -> Option<Command<'a>>
+    ensures { option_map asked_by result ≡ check_with (given_by options.entry) }
+{
+    if !has_budget_alone(options) {
+        return None;
+    }
+    Some(Command::Check {
+        budget: options.budget.unwrap_or(DEFAULT_BUDGET),
+    })
+}
+
 fn why_of(words: &[Arg]) -> Option<Command<'_>>
     ensures { option_map asked_by result ≡ why_of words.now }
 {
@@ -236,7 +272,7 @@ pub enum Outcome {
     WriteFault,
     /// The link failed.
     LinkFault,
-    /// The input is larger than 4,294,967,296 bytes.
+    /// The input is larger than 4,294,967,296 bytes, or than 16,777,216 where it is read as an ontology.
     TooMuch,
     /// There was no memory.
     Memory,

@@ -34,5 +34,5 @@ fn write_help<K: Sink>(output: &mut K) -> bool
 fn help_text() -> &'static str
     ensures { result.now ≡ help_text }
 {
-    "acewiki replay [--budget N]\nacewiki serve ADDRESS [--budget N] [--events N]\nacewiki make COUNT SEED [--budget N]\nacewiki help\nacewiki say [--budget N]\nacewiki why ARTICLE AT [--budget N] [--name NAME]\n"
+    "acewiki replay [--budget N]\nacewiki serve ADDRESS [--budget N] [--events N]\nacewiki make COUNT SEED [--budget N]\nacewiki help\nacewiki say [--budget N]\nacewiki export [--budget N]\nacewiki check [--budget N]\nacewiki why ARTICLE AT [--budget N] [--name NAME]\n"
 }

@@ -1,9 +1,10 @@
 //! AceWiki: a controlled-English wiki. `acewiki replay` answers one reply line to each request line of its input, and
 //! `acewiki serve ADDRESS` serves it to browsers; `acewiki make COUNT SEED` makes a
-//! generated one, and `acewiki help` tells the commands. `acewiki say` says all that a wiki knows, and `acewiki why ARTICLE AT`
-//! tells why a sentence is not asserted.
+//! generated one, and `acewiki help` tells the commands. `acewiki say` says all that a wiki knows, `acewiki export` writes it as an
+//! ontology, `acewiki check` tells whether an ontology has a finite model, and `acewiki why ARTICLE AT` tells why a sentence is not asserted.
 #![tactic(auto)]
 
+mod check;
 mod command;
 mod forms;
 mod help;

@@ -1,8 +1,8 @@
-// The commands `say` and `why`: the lines of the input, and then a text about the wiki.
+// The commands `say`, `export` and `why`: the lines of the input, and then a text about the wiki.
 ghost use Rattle.std.specs.Prelude.{◌≡◌, option_map};
 ghost use Rattle.wiki_io.specs.Faults.{Rose};
 ghost use Rattle.acewiki.specs.Steps.{EndsWriting};
-ghost use Rattle.acewiki.specs.Theorem.{Retells, IsSaid, IsWhy};
+ghost use Rattle.acewiki.specs.Theorem.{Retells, IsSaid, IsFile, IsWhy};
 ghost use Rattle.acewiki.specs.Wiki.{new_wiki};
 
 use crate::command::Outcome;
@@ -40,6 +40,45 @@ fn say_input<S: Source, K: Sink>(
     match step_input(alloc, wiki, input) {
         Outcome::Done => {
             let text = retelling::say_all(alloc, wiki.inner());
+            write(text, output)
+        }
+        outcome => outcome,
+    }
+}
+
+/// Steps through the lines of the input, and then writes all that the wiki knows as an ontology.
+pub fn export<S: Source, K: Sink>(
+    alloc: Global,
+    budget: u64,
+    input: &mut S,
+    output: &mut K,
+) -> Outcome
+    ensures retells { Retells IsFile (new_wiki budget) (S.left input.old) (K.taken output.old) result (S.left input.new) (K.taken output.new) }
+    ensures read_fault { result ≡ Outcome.ReadFault → Rose (S.faults input.old) (S.faults input.new) }
+    ensures write_fault { result ≡ Outcome.WriteFault → Rose (K.faults output.old) (K.faults output.new) }
+    ensures link_fault { result ≡ Outcome.LinkFault → ⊥ }
+{
+    match RecallingWiki::new(alloc, budget) {
+        Ok(mut wiki) => export_input(alloc, &mut wiki, input, output),
+        Err(Memory) => Outcome::Memory,
+    }
+}
+
+// Steps the wiki through the lines of the input, and writes all that it knows then as an ontology.
+fn export_input<S: Source, K: Sink>(
+    alloc: Global,
+    wiki: &mut RecallingWiki,
+    input: &mut S,
+    output: &mut K,
+) -> Outcome
+    ensures retells { Retells IsFile wiki.old (S.left input.old) (K.taken output.old) result (S.left input.new) (K.taken output.new) }
+    ensures read_fault { result ≡ Outcome.ReadFault → Rose (S.faults input.old) (S.faults input.new) }
+    ensures write_fault { result ≡ Outcome.WriteFault → Rose (K.faults output.old) (K.faults output.new) }
+    ensures link_fault { result ≡ Outcome.LinkFault → ⊥ }
+{
+    match step_input(alloc, wiki, input) {
+        Outcome::Done => {
+            let text = retelling::file_of(alloc, wiki.inner());
             write(text, output)
         }
         outcome => outcome,
@@ -95,8 +134,8 @@ fn why_input<S: Source, K: Sink>(
     }
 }
 
-// Writes a text, where there was memory for it.
-fn write<K: Sink>(text: Result<Text8, Memory>, output: &mut K) -> Outcome
+/// Writes a text, where there was memory for it.
+pub fn write<K: Sink>(text: Result<Text8, Memory>, output: &mut K) -> Outcome
     ensures ends { EndsWriting text result (K.taken output.old) (K.taken output.new) }
     ensures write_fault { result ≡ Outcome.WriteFault → Rose (K.faults output.old) (K.faults output.new) }
 {

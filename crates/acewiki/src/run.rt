@@ -3,11 +3,12 @@ ghost use Rattle.std.specs.Prelude.{◌≡◌, []};
 ghost use Rattle.acewiki.specs.Command.{status_of, words_of};
 ghost use Rattle.acewiki.specs.Theorem.{stream, network, Performs, Tells, Runs, RunsLine};
 
+use crate::check::check;
 use crate::command::{Command, Outcome};
 use crate::help::help;
 use crate::make::make;
 use crate::replay::replay;
-use crate::retell::{say, why};
+use crate::retell::{export, say, why};
 use crate::serve::serve;
 use crate::words::{CommandLine, words};
 use std::alloc::Global;
@@ -16,7 +17,7 @@ use wiki_io::{Link, Sink, Source, put};
 
 /// Runs the command that the words are, and tells the status of the process: 0 where it was done, 2 where the words are
 /// no command, 3 where the input could not be read, 4 where the output could not be written, 5 where the link could not
-/// listen or failed, 6 where the input has more than 4,294,967,296 bytes, 9 where there was no memory. Where the status
+/// listen or failed, 6 where the input has more than 4,294,967,296 bytes (for `check` 16,777,216), 9 where there was no memory. Where the status
 /// is not 0, a line on `errors` says why.
 pub fn run<S: Source, K: Sink, E: Sink, L: Link>(
     alloc: Global,
@@ -84,6 +85,8 @@ fn perform<S: Source, K: Sink, L: Link>(
         ) => make(alloc, count, seed, budget, output),
         Some(Command::Help) => help(output),
         Some(Command::Say { budget }) => say(alloc, budget, input, output),
+        Some(Command::Export { budget }) => export(alloc, budget, input, output),
+        Some(Command::Check { budget }) => check(alloc, budget, input, output),
         Some(
             Command::Why {
                 article,

@@ -122,10 +122,16 @@ const CITIES: &[u8] = b"{\"do\":\"word\",\"kind\":\"noun\",\"forms\":[\"city\"]}
 {\"do\":\"add\",\"article\":\"Bern\",\"text\":\"Bern is a country.\"}\n";
 
 // The words of a command, and what it writes behind these lines.
-const TOLD: [(&[&str], &str, u8); 6] = [
+const TOLD: [(&[&str], &str, u8); 8] = [
     (
         &["say"],
         "Every city is not a country.\nBern is a city.\n",
+        0,
+    ),
+    (
+        &["export"],
+        "Prefix(:=<urn:acewiki:>)\nOntology(<urn:acewiki>\nDeclaration(Class(:city))\nDeclaration(Class(:country))\n\
+Declaration(NamedIndividual(:Bern))\nSubClassOf(:city ObjectComplementOf(:country))\nClassAssertion(:city :Bern)\n)\n",
         0,
     ),
     (
@@ -137,7 +143,27 @@ const TOLD: [(&[&str], &str, u8); 6] = [
     (&["why", "Bern", "1", "--name", "Bern"], "no case\n", 0),
     (&["why", "Bern"], "", 2),
     (&["say", "--name", "Bern"], "", 2),
+    (&["export", "--events", "5"], "", 2),
 ];
+
+// A file in which a thing is a city and a country, which no thing is.
+const FILE: &[u8] = b"Prefix(:=<http://example.org/>)\nOntology(<http://example.org/o>\n\
+DisjointClasses(:City :Country)\nClassAssertion(:City :Bern)\nClassAssertion(:Country :Bern)\n)\n";
+
+#[test]
+fn a_file_is_checked(rt: HostRuntime) -> Result<(), Fail> {
+    let alloc = rt.alloc();
+    let mut words = Vec::new(alloc);
+    words.push(Arg::from_slice(alloc, b"check")?)?;
+    let line = ToldLine { words };
+    let left = left_by(alloc, &line, false, FILE)?;
+    assert_eq!(rt; left.status, 0);
+    assert_eq!(rt; left.output.as_slice(), b"inconsistent\n".as_slice());
+    let left = left_by(alloc, &line, false, b"Ontology(HasKey(")?;
+    assert_eq!(rt; left.status, 0);
+    assert_eq!(rt; left.output.as_slice(), b"Unsupported 9\n".as_slice());
+    Ok(())
+}
 
 #[test]
 fn the_wiki_is_told_behind_the_lines(rt: HostRuntime) -> Result<(), Fail> {

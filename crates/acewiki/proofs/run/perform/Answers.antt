@@ -39,6 +39,18 @@ returns-in-Some-Say g c =
     let is = asked_so _ _ _ _ c.from_words.ensures c.in-Some-Say.is c.in-Some-Say.field-0-is in
     record { performs = performed _ _ _ _ _ is (ran.retells, refl) ran.read_fault ran.write_fault (λ is. absurd (ran.link_fault is)) }
 
+pub returns-in-Some-Export : goal.returns-in-Some-Export
+returns-in-Some-Export g c =
+    let ran = c.export.ensures in
+    let is = asked_so _ _ _ _ c.from_words.ensures c.in-Some-Export.is c.in-Some-Export.field-0-is in
+    record { performs = performed _ _ _ _ _ is (ran.retells, refl) ran.read_fault ran.write_fault (λ is. absurd (ran.link_fault is)) }
+
+pub returns-in-Some-Check : goal.returns-in-Some-Check
+returns-in-Some-Check g c =
+    let ran = c.check.ensures in
+    let is = asked_so _ _ _ _ c.from_words.ensures c.in-Some-Check.is c.in-Some-Check.field-0-is in
+    record { performs = performed _ _ _ _ _ is (ran.tells, refl) ran.read_fault ran.write_fault (λ is. absurd (ran.link_fault is)) }
+
 pub returns-in-Some-Why : goal.returns-in-Some-Why
 returns-in-Some-Why g c =
     let ran = c.why.ensures in

@@ -4,7 +4,7 @@
 # connections; a request of 65,536 bytes in single bytes; and the memory after 100,000 requests.
 set -eu
 root="$(cd "$(dirname "${BASH_SOURCE[0]}")/.." && pwd)"
-program="$("$root/bench/program" acewiki)"
+program="${PROGRAM:-$("$root/bench/program" acewiki)}"
 for tool in ab nginx; do
     command -v "$tool" >/dev/null || { echo "http.sh: $tool is missing (Debian's apache2-utils and nginx-light have it)"; exit 1; }
 done

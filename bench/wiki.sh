@@ -5,7 +5,7 @@
 # end 64 sessions have 40 tokens each, and the wiki gets the text of its grammar, the same with a word more, and one with a fault.
 set -eu
 root="$(cd "$(dirname "${BASH_SOURCE[0]}")/.." && pwd)"
-program="$("$root/bench/program" acewiki)"
+program="${PROGRAM:-$("$root/bench/program" acewiki)}"
 python3 - "$program" "${1:-2000}" "${2:-7}" "$root" <<'PY'
 import json, statistics, subprocess, sys, time
 

@@ -1,8 +1,7 @@
 """What `say` and `why` write behind the lines of their input.
 
 retelling.py PROGRAM say|why [FILE]: the worked runs below, and the recorded runs of the command in FILE, one object of JSON a
-line with `words`, `input` and `output`, where each character is one byte. A recorded run with requests that the program doesn't
-know is skipped, and told.
+line with `words`, `input` and `output`, where each character is one byte.
 """
 import json, subprocess, sys
 
@@ -71,18 +70,6 @@ def expect(words, done, output):
         raise SystemExit(f"{words[0]}: {' '.join(words)}: expected status 0 and {output!r}, came {done.returncode}, {done.stdout!r} and {done.stderr!r}")
 
 
-def asked(line):
-    try:
-        return json.loads(line).get("do")
-    except (ValueError, AttributeError, RecursionError):
-        return None
-
-
-def is_ahead(row):
-    """Whether a run asks for what the program doesn't do yet."""
-    return any(asked(line) in ("undo", "redo", "grammar") for line in row["input"].split("\n"))
-
-
 def main(program, command, *files):
     for words, live, sentences, more, output in SAID if command == "say" else TOLD:
         expect(words.split(), ran(program, words.split(), lines_of(live, sentences, more)), output.encode())
@@ -91,15 +78,12 @@ def main(program, command, *files):
         if done.returncode != 2 or done.stdout:
             raise SystemExit(f"{command}: {words}: expected status 2, came {done.returncode} and {done.stdout!r}")
     for name in files:
-        compared = skipped = 0
+        compared = 0
         for line in open(name, encoding="utf-8"):
             row = json.loads(line)
-            if is_ahead(row):
-                skipped += 1
-                continue
             expect(row["words"], ran(program, row["words"], row["input"].encode("latin-1")), row["output"].encode("latin-1"))
             compared += 1
-        print(f"{command}: {compared} recorded runs are the same, {skipped} that ask for more than the program does were skipped")
+        print(f"{command}: {compared} recorded runs are the same")
 
 
 main(*sys.argv[1:])

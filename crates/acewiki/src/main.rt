@@ -4,34 +4,12 @@
 //! ontology, `acewiki check` tells whether an ontology has a finite model, and `acewiki why ARTICLE AT` tells why a sentence is not asserted.
 #![tactic(auto)]
 
-mod check;
-mod command;
-mod forms;
-mod help;
-mod lines;
-mod make;
-mod options;
-mod over_sockets;
-mod recalling;
-mod replay;
-mod retell;
-mod run;
-mod serve;
-#[cfg(test)]
-mod tests;
-mod wiki;
-mod words;
-
-use command::Outcome;
-pub use lines::answer_line;
-pub use over_sockets::program_over;
-use run::end;
-pub use run::{program, run};
+use command_line::{Outcome, ProcessLine};
+use commands::{end, program_over};
 use socket_link::SocketLink;
 use std::process::ExitCode;
 use std::time::Duration;
 use wiki_io::{ReadSource, WriteSink};
-use words::ProcessLine;
 
 // How long a connection may take until an empty line has come, and until its whole request has.
 const HEAD_SECONDS: u64 = 20;

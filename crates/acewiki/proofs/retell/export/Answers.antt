@@ -1,6 +1,0 @@
-use Rattle.acewiki.specs.Theorem.{IsFile}
-use Rattle.acewiki.proofs.RetellLemmas.{Retells-none}
-use Rattle.acewiki.proofs.retell.export.Goals as goal
-
-pub returns-in-Err-clause-retells : goal.returns-in-Err-clause-retells
-returns-in-Err-clause-retells g c = Retells-none IsFile _ _ _

@@ -1,6 +1,0 @@
-use Rattle.acewiki.specs.Theorem.{IsSaid}
-use Rattle.acewiki.proofs.RetellLemmas.{Retells-none}
-use Rattle.acewiki.proofs.retell.say.Goals as goal
-
-pub returns-in-Err-clause-retells : goal.returns-in-Err-clause-retells
-returns-in-Err-clause-retells g c = Retells-none IsSaid _ _ _

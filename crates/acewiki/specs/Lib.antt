@@ -1,8 +1,0 @@
-pub mod Wiki
-pub mod Command
-pub mod Lines
-pub mod Completeness
-pub mod Standing
-pub mod Theorem
-pub mod Sockets
-pub mod Steps

@@ -1,0 +1,5 @@
+//! The program over streams and a link in memory, which tell all that its theorem speaks of.
+#![tactic(auto)]
+
+#[cfg(test)]
+mod tests;

@@ -1,0 +1,15 @@
+//! The command line: its words, which of them are a command, what `help` tells, and how a run ends.
+#![tactic(auto)]
+
+mod command;
+mod forms;
+mod help;
+mod options;
+mod words;
+
+pub use command::{Command, Outcome};
+pub use help::help_text;
+pub use options::{
+    DEFAULT_BUDGET, MOST_BUDGET, MOST_EVENTS, MOST_MADE, MOST_PLACE, Options, number_within,
+};
+pub use words::{CommandLine, ProcessLine, words};

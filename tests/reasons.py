@@ -231,4 +231,5 @@ def main(program, count):
         sys.exit("reasons: of more than one of a hundred the budget is spent")
 
 
-main(*sys.argv[1:])
+if __name__ == "__main__":
+    main(*sys.argv[1:])

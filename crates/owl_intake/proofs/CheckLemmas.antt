@@ -1,5 +1,5 @@
 -- What is told of a text.
-use Rattle.std.proofs.Common.{◌≡◌, ◌≢◌, inl, inr, ℕ, List, true, refl, subst, codes, Result, Ok, Err}
+use Rattle.std.proofs.Common.{◌≡◌, ◌≢◌, inl, inr, ℕ, List, true, subst, codes, Result, Ok, Err, IfOk, IfErr}
 use Rattle.wiki_base.specs.declared.numbers.WordId.{WordId}
 use Rattle.logic_terms.specs.Concept.{Claim}
 use Rattle.logic_terms.specs.Plain.{are_plain}
@@ -13,13 +13,15 @@ use Rattle.owl_reader.specs.declared.faults.OwlFault.{OwlFault}
 use Rattle.owl_reader.specs.declared.faults.OwlFault.TheVariants as fault
 use Rattle.owl_reader.specs.declared.reading.OwlDoc.{OwlDoc}
 use Rattle.owl_reader.specs.Shown.{Reads}
-use Rattle.owl_intake.specs.Checked.{Says, individuals, TellsVerdict, fault_line, TellsCheck}
+use Rattle.owl_grammar.specs.Files.{IsOwlFile}
+use Rattle.owl_grammar.specs.Faults.{IsFault}
+use Rattle.owl_intake.specs.Checked.{individuals, TellsVerdict, fault_line, TellsCheck}
 use Rattle.owl_intake.proofs.ReadFits.{read_over, read_plain}
 
 -- ---- a file that is read
 
-module _ (text : List ℕ) (result : Result OwlDoc OwlFault) (reads : Reads text result) where
-  module _ (doc : OwlDoc) (is : result ≡ Ok doc) where
+module _ (text : List ℕ) (result : Result OwlDoc OwlFault) where
+  module _ (reads : Reads text result) (doc : OwlDoc) (is : result ≡ Ok doc) where
     so : Reads text (Ok doc)
     so = subst (Reads text) is reads
 
@@ -29,19 +31,15 @@ module _ (text : List ℕ) (result : Result OwlDoc OwlFault) (reads : Reads text
     pub doc_plain : are_plain (claims_of doc.axioms) ≡ true
     doc_plain = read_plain so.0 so.1 doc.entities (claims_of doc.axioms) so.3
 
-    pub doc_told : (budget : ℕ) (line : List ℕ) → TellsVerdict budget (claims_of doc.axioms) (individuals doc.entities) line → TellsCheck budget text line
-    doc_told budget line told = inl (doc.entities, claims_of doc.axioms, (so.0, so.1, so.2, so.3), told)
+  pub doc_told : IfOk result (λ doc. IsOwlFile text doc.entities (claims_of doc.axioms)) → (doc : OwlDoc) (budget : ℕ) (line : List ℕ) → result ≡ Ok doc
+      → TellsVerdict budget (claims_of doc.axioms) (individuals doc.entities) line → TellsCheck budget text line
+  doc_told ok doc budget line is told =
+      inl (doc.entities, claims_of doc.axioms, subst (λ r. IfOk r (λ doc. IsOwlFile text doc.entities (claims_of doc.axioms))) is ok, told)
 
   -- a text that is refused
-  pub fault_told : (f : OwlFault) (budget : ℕ) (line : List ℕ) → result ≡ Err f → f ≢ fault.Memory → line ≡ fault_line f → TellsCheck budget text line
-  fault_told f budget line is not_memory told = inr (f, says f not_memory (subst (Reads text) is reads), told)
-    where
-      says : (g : OwlFault) → g ≢ fault.Memory → Reads text (Err g) → Says text (Err g)
-      says (fault.Syntax at) other read = read
-      says (fault.Unsupported at) other read = read
-      says (fault.Prefix at) other read = read
-      says (fault.TooDeep at) other read = read
-      says fault.Memory other read = absurd (other refl)
+  pub fault_told : IfErr result (IsFault text) → (f : OwlFault) (budget : ℕ) (line : List ℕ) → result ≡ Err f → f ≢ fault.Memory → line ≡ fault_line f
+      → TellsCheck budget text line
+  fault_told faults f budget line is not_memory told = inr (f, not_memory, subst (λ r. IfErr r (IsFault text)) is faults, told)
 
 -- ---- verdicts
 

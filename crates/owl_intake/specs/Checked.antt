@@ -1,5 +1,5 @@
 -- What is told of a file: whether what it says has a finite model, or its first fault.
-use Rattle.std.specs.Prelude.{◌≡◌, ◌⊎◌, ℕ, ◌+◌, Bool, true, false, if◌then◌else◌, List, [], ◌∷◌, ◌++◌, codes, Result, Ok, Err}
+use Rattle.std.specs.Prelude.{◌≡◌, ◌≢◌, ◌⊎◌, ℕ, ◌+◌, Bool, true, false, if◌then◌else◌, List, [], ◌∷◌, ◌++◌, codes}
 use Rattle.std.specs.Fmt.{decimal}
 use Rattle.wiki_base.specs.declared.numbers.WordId.{WordId}
 use Rattle.logic_terms.specs.Concept.{Claim}
@@ -8,17 +8,13 @@ use Rattle.logic_terms.specs.Theory.{Theory}
 use Rattle.absorb.specs.Absorbed.{IsAbsorbed}
 use Rattle.tableau_rules.specs.Searching.{IsLonger}
 use Rattle.reasoner.specs.Verdicts.{IsFiniteModel, HaveNoModel}
-use Rattle.owl_tokens.specs.Tokens.{Token, Ending, IsCut}
 use Rattle.owl_reader.specs.declared.faults.OwlFault.{OwlFault}
 use Rattle.owl_reader.specs.declared.faults.OwlFault.TheVariants as fault
 use Rattle.owl_reader.specs.declared.kinds.Entity.{Entity}
 use Rattle.owl_reader.specs.declared.kinds.EntityKind.{EntityKind}
 use Rattle.owl_reader.specs.declared.kinds.EntityKind.TheVariants as kind
-use Rattle.owl_reader.specs.Reading.{fresh_state, reading}
-
--- what a text says as a file: its entities and axioms, or its first fault
-abbrev pub Says : List ℕ → Result (List Entity × List Claim) OwlFault → Type 0
-Says text what = (tokens : List Token) × (ending : Ending) × IsCut text tokens ending × (reading fresh_state tokens ending ≡ what)
+use Rattle.owl_grammar.specs.Files.{IsOwlFile}
+use Rattle.owl_grammar.specs.Faults.{IsFault}
 
 abbrev pub is_individual : EntityKind → Bool
 is_individual kind.Individual = true
@@ -54,8 +50,9 @@ fault_line (fault.Prefix at) = codes "Prefix" ++ (codes " " ++ (decimal at ++ co
 fault_line (fault.TooDeep at) = codes "TooDeep" ++ (codes " " ++ (decimal at ++ codes "\n"))
 fault_line fault.Memory = []
 
--- what is told of a text: the verdict on its axioms, over the individuals among its entities, or its fault
+-- What is told of a text: of a file, by the grammar of files, the verdict on its axioms, over the individuals among its entities; else the
+-- fault of its first token that has one.
 abbrev pub TellsCheck : ℕ → List ℕ → List ℕ → Type 0
 TellsCheck budget text line =
-    ((entities : List Entity) × (claims : List Claim) × Says text (Ok (entities, claims)) × TellsVerdict budget claims (individuals entities) line)
-    ⊎ ((f : OwlFault) × Says text (Err f) × (line ≡ fault_line f))
+    ((entities : List Entity) × (claims : List Claim) × IsOwlFile text entities claims × TellsVerdict budget claims (individuals entities) line)
+    ⊎ ((f : OwlFault) × (f ≢ fault.Memory) × IsFault text f × (line ≡ fault_line f))

@@ -1,5 +1,5 @@
 use Rattle.std.proofs.Common.{◌≡◌, IfSome, take}
-use Rattle.command_line.proofs.words.words.Given as goal
+use Rattle.command_line.proofs.arguments.words.Given as goal
 
 -- the words so far, where the command line tells them
 abbrev pub invariant-loop-place : goal.invariant-loop-place

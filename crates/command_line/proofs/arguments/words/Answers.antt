@@ -2,7 +2,7 @@ use Rattle.std.proofs.Common.{◌≡◌, ℕ, ◌+◌, List, [], ◌∷◌, ◌+
 use Rattle.std.specs.List.{slice_get}
 use Rattle.std.proofs.lemmas.List.{take_more}
 use Rattle.std.proofs.lemmas.Option.{slice_get_within, get_or_from_slice_get}
-use Rattle.command_line.proofs.words.words.Goals as goal
+use Rattle.command_line.proofs.arguments.words.Goals as goal
 
 -- one more word
 words_more : (line : Option (List (List ℕ))) (words new : List (List ℕ)) (place : ℕ) (word : List ℕ) (got : Option (List ℕ))

@@ -13,4 +13,3 @@ pub use help::help_text;
 pub use options::{
     DEFAULT_BUDGET, MOST_BUDGET, MOST_EVENTS, MOST_MADE, MOST_PLACE, Options, number_within,
 };
-

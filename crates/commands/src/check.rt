@@ -5,8 +5,8 @@ ghost use Rattle.commands.specs.Steps.{cut_outcome};
 ghost use Rattle.commands.specs.Theorem.{TellsOfFile};
 ghost use Rattle.owl_intake.specs.Checked.{TellsCheck};
 
-use command_line::Outcome;
 use crate::retell::write;
+use command_line::Outcome;
 use owl_intake::{CutShort, read_input};
 use std::alloc::Global;
 use wiki_io::{Sink, Source};

@@ -9,12 +9,12 @@ mod over_sockets;
 mod recalling;
 mod replay;
 mod retell;
-mod run;
+mod running;
 mod serve;
 mod wiki;
 
 pub use lines::answer_line;
 pub use over_sockets::program_over;
 pub use recalling::RecallingWiki;
-pub use run::{end, program, run};
+pub use running::{end, program, run};
 pub use wiki::AceWiki;

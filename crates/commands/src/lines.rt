@@ -8,8 +8,8 @@ ghost use Rattle.wiki_talk.specs.declared.replies.Reply.{Reply};
 ghost use Rattle.commands.specs.Wiki.{KeptTurn};
 ghost use Rattle.wire_json.specs.Replies.{reply_line};
 
-use command_line::Outcome;
 use crate::recalling::RecallingWiki;
+use command_line::Outcome;
 use std::alloc::Global;
 use wiki_base::{Memory, Text8};
 use wiki_io::{Sink, put};

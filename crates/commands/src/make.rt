@@ -5,8 +5,8 @@ ghost use Rattle.commands.specs.Steps.{made_outcome};
 ghost use Rattle.commands.specs.Theorem.{MakesSummary};
 ghost use Rattle.commands.specs.Wiki.{ace_wiki};
 
-use command_line::Outcome;
 use crate::wiki::AceWiki;
+use command_line::Outcome;
 use making::Made;
 use std::alloc::Global;
 use wiki_base::Memory;

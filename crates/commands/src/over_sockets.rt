@@ -4,7 +4,7 @@ ghost use Rattle.socket_link.specs.Deeds.{AreToldRight};
 ghost use Rattle.commands.specs.Sockets.{network_over};
 ghost use Rattle.commands.specs.Theorem.{stream, RunsLine};
 
-use crate::run::program;
+use crate::running::program;
 use command_line::CommandLine;
 use socket_link::{SocketLink, Sockets};
 use std::alloc::Global;

@@ -5,9 +5,9 @@ ghost use Rattle.wiki_io.specs.Reading.{unread};
 ghost use Rattle.commands.specs.Theorem.{Replays};
 ghost use Rattle.commands.specs.Wiki.{new_wiki};
 
-use command_line::Outcome;
 use crate::lines::answer_line;
 use crate::recalling::RecallingWiki;
+use command_line::Outcome;
 use std::alloc::Global;
 use wiki_base::Memory;
 use wiki_io::{Line, LineReader, Sink, Source};

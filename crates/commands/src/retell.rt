@@ -5,9 +5,9 @@ ghost use Rattle.commands.specs.Steps.{EndsWriting};
 ghost use Rattle.commands.specs.Theorem.{Retells, IsSaid, IsFile, IsWhy};
 ghost use Rattle.commands.specs.Wiki.{new_wiki};
 
-use command_line::Outcome;
 use crate::recalling::RecallingWiki;
 use crate::serve::step_input;
+use command_line::Outcome;
 use std::alloc::Global;
 use wiki_base::{Memory, Text8};
 use wiki_io::{Sink, Source, put};

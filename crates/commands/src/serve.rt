@@ -6,10 +6,10 @@ ghost use Rattle.commands.specs.Steps.{StepsInput, ServesLink, outcome_of};
 ghost use Rattle.commands.specs.Theorem.{stream, network, Serves};
 ghost use Rattle.commands.specs.Wiki.{new_wiki};
 
-use command_line::Outcome;
 use crate::lines::step_line;
 use crate::recalling::RecallingWiki;
 use crate::wiki::AceWiki;
+use command_line::Outcome;
 use serving::Served;
 use std::alloc::Global;
 use wiki_base::Memory;

@@ -4,13 +4,12 @@ ghost use Rattle.command_line.specs.Command.{status_of, words_of};
 ghost use Rattle.commands.specs.Theorem.{stream, network, Performs, Tells, Runs, RunsLine};
 
 use crate::check::check;
-use command_line::{Command, Outcome};
 use crate::help::help;
 use crate::make::make;
 use crate::replay::replay;
 use crate::retell::{export, say, why};
 use crate::serve::serve;
-use command_line::{CommandLine, words};
+use command_line::{Command, CommandLine, Outcome, words};
 use std::alloc::Global;
 use wiki_base::{Arg, Memory};
 use wiki_io::{Link, Sink, Source, put};

@@ -1,5 +1,5 @@
 use Rattle.commands.proofs.StandingLemmas.{holds_of_runs}
-use Rattle.commands.proofs.run.run.Goals as goal
+use Rattle.commands.proofs.running.run.Goals as goal
 
 pub returns : goal.returns
 returns g c = record {

@@ -1,7 +1,7 @@
 use Rattle.std.proofs.Common.{refl}
 use Rattle.command_line.specs.declared.command.Outcome.TheVariants as outcomes
 use Rattle.commands.proofs.StatusLemmas.{asked_so, asked_none, no_link_fault, performed, makes_not, helps_not}
-use Rattle.commands.proofs.run.perform.Goals as goal
+use Rattle.commands.proofs.running.perform.Goals as goal
 
 pub returns-in-Some-Replay : goal.returns-in-Some-Replay
 returns-in-Some-Replay g c =

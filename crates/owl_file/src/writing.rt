@@ -1,10 +1,11 @@
 // The file of a wiki's words and axioms.
 ghost use Rattle.std.specs.Prelude.{◌≡◌, ◌++◌, codes, map, All, IfOk, OnOk};
 ghost use Rattle.lexicon.specs.Kinds.{IsComplete};
-ghost use Rattle.lexicon.specs.Words.{canonical_form_of};
+ghost use Rattle.lexicon.specs.Words.{IsLexicon, canonical_form_of};
 ghost use Rattle.logic_terms.specs.Shown.{claim_of, claims_of};
 ghost use Rattle.owl_text.specs.Texts.{claim_text};
 ghost use Rattle.owl_file.specs.Written.{entity_kind, canonical_text, entity, declaration, text_of, file_text};
+ghost use Rattle.owl_file.specs.ReadBack.{ReadsBack};
 
 use lexicon::{Kind, Lexicon, Word};
 use logic_terms::{Axiom, Axioms};
@@ -12,10 +13,12 @@ use owl_text::print_axiom;
 use std::alloc::Global;
 use wiki_base::{Memory, Text8};
 
-/// The ontology of all live words and these axioms, as a file of the profile that docs/MEANING.md lists: a declaration of each
-/// word in order of number, and the axioms in order. Of a word that is not live an axiom has a colon alone.
+/// The ontology of all live words and these axioms, as a file of the profile that docs/OWL.md tells: a declaration of each word in
+/// order of number, and the axioms in order. Of a word that is not live an axiom has a colon alone.
 pub fn write_owl(alloc: Global, lexicon: &Lexicon, axioms: &Axioms) -> Result<Text8, Memory>
-    ensures { IfOk result (λ text. text ≡ file_text lexicon.now (claims_of axioms.now)) }
+    ensures text { IfOk result (λ text. text ≡ file_text lexicon.now (claims_of axioms.now)) }
+    // As a file it says these axioms, with each word's place among the live words as its number.
+    ensures read_back { IfOk result (ReadsBack lexicon.now (claims_of axioms.now)) }
 {
     let mut out = Text8::new(alloc);
     put_line(&mut out, "Prefix(:=<urn:acewiki:>)")?;
@@ -27,7 +30,8 @@ pub fn write_owl(alloc: Global, lexicon: &Lexicon, axioms: &Axioms) -> Result<Te
 }
 
 fn put_declarations(out: &mut Text8, lexicon: &Lexicon) -> Result<(), Memory>
-    ensures { OnOk result (out.new ≡ out.old ++ text_of (map declaration lexicon.now.live)) }
+    ensures text { OnOk result (out.new ≡ out.old ++ text_of (map declaration lexicon.now.live)) }
+    ensures lexicon { IsLexicon lexicon.now }
 {
     for place in 0..lexicon.len() {
         put_declared(out, lexicon.get(place))?;

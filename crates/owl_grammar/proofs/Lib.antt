@@ -1,6 +1,6 @@
 mod Machine
-mod Numbers
-mod Words
+pub mod Numbers
+pub mod Words
 mod Readings
 mod Counts
 mod Stacks

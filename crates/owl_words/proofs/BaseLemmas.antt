@@ -76,12 +76,14 @@ hyphen_step false false rest = refl
 
 pub text_in_accepted : (cs bytes : List ℕ) → bytes ≡ encode_utf8_all cs → fault_of bytes ≡ None → text_in cs ≡ Some bytes
 text_in_accepted cs bytes same none =
-    ap (λ (b : Bool). if b then Some (encode_utf8_all cs) else None) (ap (λ (bs : List ℕ). not (is_some (fault_of bs))) (sym same) ∙ ap (λ (f : Option BadText). not (is_some f)) none)
+    ap (λ (b : Bool). if b then Some (encode_utf8_all cs) else None)
+    (ap (λ (bs : List ℕ). not (is_some (fault_of bs))) (sym same) ∙ ap (λ (f : Option BadText). not (is_some f)) none)
     ∙ ap Some (sym same)
 
 pub text_in_refused : (cs bytes : List ℕ) (fault : BadText) → bytes ≡ encode_utf8_all cs → fault_of bytes ≡ Some fault → text_in cs ≡ None
 text_in_refused cs bytes fault same is =
-    ap (λ (b : Bool). if b then Some (encode_utf8_all cs) else None) (ap (λ (bs : List ℕ). not (is_some (fault_of bs))) (sym same) ∙ ap (λ (f : Option BadText). not (is_some f)) is)
+    ap (λ (b : Bool). if b then Some (encode_utf8_all cs) else None)
+    (ap (λ (bs : List ℕ). not (is_some (fault_of bs))) (sym same) ∙ ap (λ (f : Option BadText). not (is_some f)) is)
 
 pub base_as_is : (kind : Kind) (part text : List ℕ) → text_in part ≡ Some text → base_of_part kind part ≡ part
 base_as_is kind part text is = by (is_text part) is

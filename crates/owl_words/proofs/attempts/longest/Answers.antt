@@ -4,7 +4,8 @@ use Rattle.owl_words.proofs.attempts.longest.Goals as goal
 
 pub returns-in-Some : goal.returns-in-Some
 returns-in-Some c =
-    sym (c.loop-count.invariant.left_decides ∙ longest_found c.args.kind c.args.base.now c.args.ending.now c.loop-count.count c.in-Some.forms c.loop-count-test.true
+    sym (c.loop-count.invariant.left_decides
+    ∙ longest_found c.args.kind c.args.base.now c.args.ending.now c.loop-count.count c.in-Some.forms c.loop-count-test.true
     (sym c.in_ok-forms.ensures ∙ c.in-Some.is))
 
 pub loop-count-preserved : goal.loop-count-preserved

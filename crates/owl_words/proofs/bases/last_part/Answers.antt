@@ -33,5 +33,6 @@ pub returns : goal.returns
 returns c =
     let cs = c.args.cs.now in
     let part = c.loop-c.part.items in
-    sym (c.loop-c.invariant.left_decides ∙ ap last_part (ap (λ (rest : List ℕ). part ++ rest) (drop_all c.loop-c.c-index cs c.loop-c-test.false) ∙ append-nil part)
+    sym (c.loop-c.invariant.left_decides
+    ∙ ap last_part (ap (λ (rest : List ℕ). part ++ rest) (drop_all c.loop-c.c-index cs c.loop-c-test.false) ∙ append-nil part)
     ∙ last_part_same part c.loop-c.invariant.no_separator)

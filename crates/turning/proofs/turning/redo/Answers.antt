@@ -5,7 +5,7 @@ use Rattle.history.specs.declared.kept.Kept.{Kept}
 use Rattle.wiki_store.specs.PuttingBack.{IsOfArticle}
 use Rattle.wiki_core.specs.Holding.{pages_held}
 use Rattle.wiki_core.specs.PuttingBack.{put_back}
-use Rattle.turning.proofs.TurnLemmas.{has_nothing, newest_there, at_last, from_can, onto_can}
+use Rattle.turning.proofs.TurnLemmas.{has_nothing, newest_there, at_last, can_first, from_can, onto_can}
 use Rattle.turning.proofs.turning.redo.Goals as goal
 
 pub returns-in_default-clause-turn : goal.returns-in_default-clause-turn
@@ -24,6 +24,11 @@ returns-then-is_at_last_revision-clause-turn c =
       refl,
       refl,
     )
+
+pub model_of-requires : goal.model_of-requires
+model_of-requires c =
+    can_first c.args.wiki.now c.args.wiki.now c.args.history.now.future c.args.history.now.past c.requires.1 c.requires.0 c.is_kept.ensures.pages.in_order
+    c.in-Some.next.now (sym c.in-Some.ensures)
 
 pub returns-clause-fits : goal.returns-clause-fits
 returns-clause-fits c =

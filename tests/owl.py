@@ -5,6 +5,7 @@ checked again, and the recorded runs of the FILEs, one object of JSON a line wit
 character is one byte.
 """
 import json, os, subprocess, sys
+import recorded
 
 ROOT = os.path.join(os.path.dirname(os.path.abspath(__file__)), "..")
 WORDS = {
@@ -173,13 +174,7 @@ def main(program, *files):
     large(program)
     for words in REFUSED:
         expect(words, ran(program, words.split(), b""), b"", 2)
-    for name in files:
-        compared = 0
-        for line in open(name, encoding="utf-8"):
-            row = json.loads(line)
-            expect(row["words"], ran(program, row["words"], row["input"].encode("latin-1")), row["output"].encode("latin-1"))
-            compared += 1
-        print(f"owl: {compared} recorded runs of {os.path.basename(name)} are the same")
+    recorded.compare("owl", files, lambda words, given: ran(program, words, given), expect)
 
 
 main(*sys.argv[1:])

@@ -4,6 +4,7 @@ retelling.py PROGRAM say|why [FILE]: the worked runs below, and the recorded run
 line with `words`, `input` and `output`, where each character is one byte.
 """
 import json, subprocess, sys
+import recorded
 
 WORDS = {
     "Bern": ("name", "Bern"), "city": ("noun", "city"), "country": ("noun", "country"),
@@ -77,13 +78,7 @@ def main(program, command, *files):
         done = ran(program, words.split(), b"")
         if done.returncode != 2 or done.stdout:
             raise SystemExit(f"{command}: {words}: expected status 2, came {done.returncode} and {done.stdout!r}")
-    for name in files:
-        compared = 0
-        for line in open(name, encoding="utf-8"):
-            row = json.loads(line)
-            expect(row["words"], ran(program, row["words"], row["input"].encode("latin-1")), row["output"].encode("latin-1"))
-            compared += 1
-        print(f"{command}: {compared} recorded runs are the same")
+    recorded.compare(command, files, lambda words, given: ran(program, words, given), expect)
 
 
 main(*sys.argv[1:])

@@ -1,8 +1,8 @@
 #!/usr/bin/env bash
-# bench/gate.sh [NAME..]: what each crate costs the gate, in processor minutes: its own proof, its tests and its must-fail
-# edits with the runs of its program and tests, for the crates that are named or for all. Each crate is given a new comment in
-# a copy, so that `rt ci NAME` proves it anew and takes what is kept of the crates below: run `rt ci` first, else what is
-# proved of those counts too, which is said on standard error. One task is done after another.
+# bench/gate.sh [NAME..]: what each crate costs the gate, in processor minutes: its own proof, its tests, its must-fail edits with
+# the runs of its program and tests, and the wrong bodies that name their function, for the crates that are named or for all.
+# Each crate is given a new comment in a copy, so that `rt ci NAME` proves it anew and takes what is kept of the crates below:
+# run `rt ci` first, else what is proved of those counts too, which is said on standard error. One task is done after another.
 set -u
 root="$(cd "$(dirname "${BASH_SOURCE[0]}")/.." && pwd)"
 cd "$root" || exit 1
@@ -29,7 +29,11 @@ seconds() { # PID: the processor time of a process and of all below it, those th
         }'
 }
 
-printf '%-18s %6s %6s %6s\n' crate proof tests edits
+named() { # NAME: the processor minutes of its wrong bodies that name their function, over what the last rt ci left here
+    tools/refused --jobs 1 "$1" 2>/dev/null | awk 'END { print $NF == "minutes" ? $(NF - 2) : "-" }'
+}
+
+printf '%-18s %6s %6s %6s %6s\n' crate proof tests edits bodies
 for name in "${names[@]}"; do
     rm -rf "$copy/repository"
     git clone -q . "$copy/repository" && cd "$copy/repository" || exit 1
@@ -52,6 +56,6 @@ for name in "${names[@]}"; do
     done <"$copy/lines"
     wait "$rt" || echo "gate.sh: rt ci $name failed" >&2
     proved="${proved:-$ended}" tested="${tested:-$proved}"
-    printf '%-18s %s %s %s\n' "$name" "$(spent 0 "$proved")" "$(spent "$proved" "$tested")" "$(spent "$tested" "$ended")"
     cd "$root" || exit 1
+    printf '%-18s %s %s %s %6s\n' "$name" "$(spent 0 "$proved")" "$(spent "$proved" "$tested")" "$(spent "$tested" "$ended")" "$(named "$name")"
 done

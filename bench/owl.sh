@@ -1,8 +1,9 @@
 #!/usr/bin/env bash
 # bench/owl.sh [RUNS]: how long files of ontologies take, on the proved program (PROGRAM names another): seconds of processor time,
 # each the least of RUNS runs, three where it isn't given. A file of 16 MB is refused at its last byte, which takes its whole
-# reading and nothing else; `acewiki export` of the 2,000 sentences of `make 2000 7` is timed beyond `acewiki replay` of the same
-# lines; and what it writes is checked, beside Konclude where the machine has it (Debian: konclude), loading included.
+# reading and nothing else, and imported when it is whole, as 5,000 words and 2,000 sentences; `acewiki export` of the 2,000
+# sentences of `make 2000 7` is timed beyond `acewiki replay` of the same lines; and what it writes is imported and checked, beside
+# Konclude where the machine has it (Debian: konclude), loading included.
 set -eu
 root="$(cd "$(dirname "${BASH_SOURCE[0]}")/.." && pwd)"
 program="${PROGRAM:-$("$root/bench/program" acewiki)}"
@@ -71,12 +72,16 @@ def row(what, seconds, told):
 file, axioms = large()
 seconds, told = took([program, "check"], file)
 row(f"{len(file)} bytes, {axioms} axioms, cut at the end", seconds, told.decode().strip())
+seconds, told = took([program, "import"], file + b")")
+row("import of these, ended", seconds, f"{told.count(bytes([10]))} lines")
 lines = lines_made(2000)
 plain, _ = took([program, "replay"], lines)
 whole, exported = took([program, "export"], lines)
 row("export of 2,000 sentences, beyond replay", whole - plain, f"{exported.count(bytes([10]))} lines")
 seconds, told = took([program, "check"], exported)
 row("check of these", seconds, told.decode().strip())
+seconds, told = took([program, "import"], exported)
+row("import of these", seconds, f"{told.count(bytes([10]))} lines")
 konclude = shutil.which("Konclude") or shutil.which("konclude")
 if konclude:
     with tempfile.TemporaryDirectory() as folder:

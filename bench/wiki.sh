@@ -3,11 +3,13 @@
 # (names in relations and classes, chains of classes, universal restrictions, and questions), one request after the other
 # through a pipe, then each article is read twice, and a word that stands in some 100 sentences gets its forms anew. At the
 # end 64 sessions have 40 tokens each, and the wiki gets the text of its grammar, the same with a word more, and one with a fault.
+# BEFORE names another program, of which the adds are told too: the one of commit 49d744f4 in release/ is the last that keeps nothing
+# of what stood before a change (git show 49d744f4:release/acewiki-x86_64-linux).
 set -eu
 root="$(cd "$(dirname "${BASH_SOURCE[0]}")/.." && pwd)"
 program="${PROGRAM:-$("$root/bench/program" acewiki)}"
 python3 - "$program" "${1:-2000}" "${2:-7}" "$root" <<'PY'
-import json, statistics, subprocess, sys, time
+import json, os, statistics, subprocess, sys, time
 
 program, count, seed, root = sys.argv[1], int(sys.argv[2]), int(sys.argv[3]), sys.argv[4]
 letters = "abcdefghijklmnopqrst"
@@ -35,7 +37,8 @@ def sentence(n):
     return nouns[a % 20], f"Which {nouns[a % 20]}s {verbs[b % 10]} {names[c % 20]}?"
 
 
-wiki = subprocess.Popen([program, "replay"], stdin=subprocess.PIPE, stdout=subprocess.PIPE)
+def started(path):
+    return subprocess.Popen([path, "replay"], stdin=subprocess.PIPE, stdout=subprocess.PIPE)
 
 
 def ask(**request):
@@ -46,16 +49,36 @@ def ask(**request):
     return reply, (time.perf_counter() - begun) * 1000
 
 
+def filled():
+    """Adds the words and the sentences: what each add took, and how many have which status."""
+    global state
+    state = seed % 65537
+    for kind, words in [("noun", [[x, x + "s"] for x in nouns]), ("name", [[x] for x in names]), ("verb", [[x + "s", x, x + "ed"] for x in verbs])]:
+        for forms in words:
+            assert ask(do="word", kind=kind, forms=forms)[0] == {"done": "word"}
+    adds, statuses = [], {}
+    for n in range(count):
+        article, text = sentence(n)
+        reply, took = ask(do="add", article=article, text=text)
+        adds.append(took)
+        statuses[reply.get("status")] = statuses.get(reply.get("status"), 0) + 1
+    return adds, statuses
+
+
+def tell(name, adds):
+    last = statistics.median(adds[-100:])
+    print(f"{name:32} {sum(adds):10.0f} {statistics.median(adds):10.3f} {last:10.3f} {max(adds):10.2f}")
+
+
+before = []
+if "BEFORE" in os.environ:
+    wiki = started(os.environ["BEFORE"])
+    before, _ = filled()
+    wiki.stdin.close()
+    wiki.wait()
+wiki = started(program)
 whole = time.perf_counter()
-for kind, words in [("noun", [[x, x + "s"] for x in nouns]), ("name", [[x] for x in names]), ("verb", [[x + "s", x, x + "ed"] for x in verbs])]:
-    for forms in words:
-        assert ask(do="word", kind=kind, forms=forms)[0] == {"done": "word"}
-adds, statuses = [], {}
-for n in range(count):
-    article, text = sentence(n)
-    reply, took = ask(do="add", article=article, text=text)
-    adds.append(took)
-    statuses[reply.get("status")] = statuses.get(reply.get("status"), 0) + 1
+adds, statuses = filled()
 reads, answers, unknown = [], 0, 0
 for word in nouns + names + verbs:
     reply, took = ask(do="read", article=word)
@@ -76,7 +99,10 @@ for n in range(64):
 grammars = [ask(do="grammar", text=line["text"] + more) for more in ["", " {mark} rp --> [which].", " text --> ."]]
 print(f"{'sentences':32} {count:10} {statuses}, {answers} answers, {unknown} unknown")
 print(f"{'all requests, s':32} {whole:10.2f}")
-print(f"{'an add, median and worst, ms':32} {statistics.median(adds):10.2f} {max(adds):10.2f}")
+print(f"{'adds, ms':32} {'all':>10} {'median':>10} {'last 100':>10} {'worst':>10}")
+tell("with what stood before", adds)
+if before:
+    tell("of BEFORE", before)
 print(f"{'a read, median and worst, ms':32} {statistics.median(reads):10.2f} {max(reads):10.2f}")
 print(f"{'a read again, median and worst, ms':32} {statistics.median(again):8.2f} {max(again):10.2f}")
 print(f"{'a find, median and worst, ms':32} {statistics.median(finds):10.2f} {max(finds):10.2f}")

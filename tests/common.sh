@@ -5,7 +5,7 @@
 export PYTHONDONTWRITEBYTECODE=1 no_proxy=127.0.0.1 NO_PROXY=127.0.0.1
 
 # shellcheck disable=SC2034
-commands_of_scripts='python3 cc curl chromium chromedriver eslint nginx openssl git dpkg-deb xz'
+commands_of_scripts='python3 cc curl chromium chromedriver eslint nginx openssl git dpkg-deb xz zzuf'
 
 package_of() { # COMMAND
     case "$1" in

@@ -9,7 +9,7 @@ from running import Wiki, api, read_all
 WORDS = {0: "", 2: "usage: acewiki replay|serve|make|help\n", 3: "read fault\n", 4: "write fault\n", 5: "link fault\n"}
 LINES = b"".join(json.dumps(dict(do="word", kind="name", forms=["Nam" + chr(97 + n)])).encode() + b"\n" for n in range(20))
 HELP = b"acewiki replay [--budget N]\nacewiki serve ADDRESS [--budget N] [--events N]\nacewiki make COUNT SEED [--budget N]\nacewiki help\n" \
-    b"acewiki say [--budget N]\nacewiki export [--budget N]\nacewiki check [--budget N]\nacewiki why ARTICLE AT [--budget N] [--name NAME]\n"
+    b"acewiki say [--budget N]\nacewiki export [--budget N]\nacewiki check [--budget N]\nacewiki import\nacewiki why ARTICLE AT [--budget N] [--name NAME]\n"
 MADE = b"words 50\nsentences 5\nasserted 4\nred 0\noutside 0\nquestions 1\nanswers 0\nunknown 0\n"
 
 

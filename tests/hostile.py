@@ -313,16 +313,25 @@ def pieces(draw, data):
 
 def connect_once(wiki, draw, number, passed):
     """One hostile connection, whose bytes and status are counted. Tells what was wrong, or nothing."""
-    data = some_bytes(draw)
+    data, source = some_bytes(draw), f"127.0.0.{1 + number % 200}"
+    if draw.randrange(50) == 0:
+        link = wiki.connect(source=source)
+        link.sendall(data)
+        reset(link)
+        return None
+    return exchanged(wiki, pieces(draw, data), source, passed)
+
+
+def exchanged(wiki, parts, source, passed):
+    """A connection over which these pieces come and then nothing more. Counts bytes and status, and tells what was wrong with the
+    answer, or nothing."""
+    data = b"".join(parts)
     passed["came"] += len(data)
     allowed = expected(data)
     got = b""
-    link = wiki.connect(source=f"127.0.0.{1 + number % 200}")
+    link = wiki.connect(source=source)
     try:
-        if draw.randrange(50) == 0:
-            link.sendall(data)
-            return None
-        for piece in pieces(draw, data):
+        for piece in parts:
             link.sendall(piece)
         link.shutdown(socket.SHUT_WR)
         got = read_all(link)
@@ -445,4 +454,5 @@ def main():
           + ", ".join(f"{times} times {status or 'nothing'}" for status, times in sorted(passed.items())))
 
 
-main()
+if __name__ == "__main__":
+    main()

@@ -89,8 +89,12 @@ cat >"$copy/tools/release" <<END
 echo "release \$*" >>"$work/calls"
 [ ! -f "$work/stale" ] || { echo "release/ is of other sources"; exit 1; }
 END
+cat >"$copy/tools/refused" <<END
+#!/usr/bin/env bash
+echo "refused" >>"$work/calls"
+END
 echo "exit 1" >"$work/apt-get"
-chmod +x "$rt" "$copy/tools/release" "$work/apt-get"
+chmod +x "$rt" "$copy/tools/release" "$copy/tools/refused" "$work/apt-get"
 what="the units"
 echo 0 >"$work/try"
 ran --units one kill
@@ -111,7 +115,7 @@ mkdir -p "$copy/crates/acewiki/out"
 cp /bin/true "$copy/crates/acewiki/out/acewiki"
 ran --proofs
 # Of the scripts two fail (one of them is skipped otherwise), and one can't run here.
-expect 1 'passed +tools/release --check .*' 'passed +tools/release --check crates/acewiki/out/acewiki .*' 'FAILED +curl .*' 'skipped +browser .*' \
-    'passed +house .*' 'not tested on this machine: browser: no screen' "$((7 + 2 + count + of_the_gate - 3)) passed, 3 failed"
-[ "$(tr "\n" , <"$work/calls")" = "release --check,rt ci,release --check crates/acewiki/out/acewiki," ] ||
-    fail "release --check, a plain rt ci and release --check PROGRAM, in this order, and not $(cat "$work/calls")"
+expect 1 'passed +tools/release --check .*' 'passed +tools/release --check crates/acewiki/out/acewiki .*' 'passed +tools/refused .*' 'FAILED +curl .*' 'skipped +browser .*' \
+    'passed +house .*' 'not tested on this machine: browser: no screen' "$((7 + 3 + count + of_the_gate - 3)) passed, 3 failed"
+[ "$(tr "\n" , <"$work/calls")" = "release --check,rt ci,release --check crates/acewiki/out/acewiki,refused," ] ||
+    fail "release --check, a plain rt ci, release --check PROGRAM and refused, in this order, and not $(cat "$work/calls")"

@@ -22,14 +22,29 @@ def expect_in(what, part, whole):
         raise Failed(f"{what}: {part!r} isn't in {whole!r}")
 
 
+def noted(lines, seen):
+    """Passes lines on and keeps them in `seen`."""
+    for line in lines:
+        seen.append(line.strip())
+        yield line
+
+
 class Driver:
     """A chromedriver on a port that it found free."""
 
     def __init__(self):
-        self.process = started(["chromedriver", "--port=0"], stdin=subprocess.DEVNULL, stdout=subprocess.PIPE, stderr=subprocess.DEVNULL, text=True)
-        told = next((found for found in map(re.compile(r"on port ([1-9]\d*)").search, self.process.stdout) if found), None)
-        if told is None:
-            raise Failed(f"chromedriver ended with status {self.process.wait()}")
+        # Two that start at once may find the same port free, and then one of them ends: it is started again.
+        for _ in range(10):
+            self.process = started(["chromedriver", "--port=0"], stdin=subprocess.DEVNULL, stdout=subprocess.PIPE, stderr=subprocess.STDOUT, text=True)
+            lines = []
+            told = next((found for found in map(re.compile(r"on port ([1-9]\d*)").search, noted(self.process.stdout, lines)) if found), None)
+            if told is not None:
+                break
+            self.process.stdout.close()
+            status = self.process.wait()
+            time.sleep(0.5)
+        else:
+            raise Failed(f"chromedriver ended with status {status}: {' '.join(lines)[-400:]}")
         self.port = int(told[1])
         self.sessions = []
 

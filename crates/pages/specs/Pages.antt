@@ -22,10 +22,13 @@ canonical word = unwrap_or (slice_get word.forms (canonical_place word.kind)) []
 
 -- ---- the index
 
-abbrev pub word_item : WordView → List ℕ
+-- a link to the article of the word that has this form
+unfoldable pub word_link : List ℕ → List ℕ
+word_link form = codes "<a href=\"/article/" ++ (byte_serialize form ++ (codes "\">" ++ (escaped form ++ codes "</a>")))
+
+unfoldable pub word_item : WordView → List ℕ
 word_item word =
-    codes "<li><a href=\"/article/" ++ (byte_serialize (canonical word) ++ (codes "\">" ++ (escaped (canonical word)
-    ++ (codes "</a> (" ++ (kind_name word.kind ++ codes ")</li>")))))
+    codes "<li>" ++ (word_link (canonical word) ++ (codes " (" ++ (kind_name word.kind ++ codes ")</li>")))
 
 abbrev pub index_body : List WordView → List ℕ
 index_body words =
@@ -57,14 +60,19 @@ unknown_shown [] = []
 unknown_shown (name ∷ names) = codes " <u>" ++ (joined (name ∷ names) ++ codes "</u>")
 
 -- what a question that asks for a class shows beside its text; any other sentence shows nothing
-abbrev pub answers_of : Status → List (List ℕ) → List (List ℕ) → List ℕ
+unfoldable pub answers_of : Status → List (List ℕ) → List (List ℕ) → List ℕ
 answers_of Question answers unknown = answers_shown answers ++ unknown_shown unknown
 answers_of status answers unknown = []
 
-abbrev pub sentence_item : SentenceView → List ℕ
-sentence_item sentence =
-    codes "<li class=\"" ++ (status_name sentence.status ++ (codes "\">" ++ (escaped sentence.text
+-- a sentence, in an element of this class
+unfoldable pub item_of_class : List ℕ → SentenceView → List ℕ
+item_of_class class sentence =
+    codes "<li class=\"" ++ (class ++ (codes "\">" ++ (escaped sentence.text
     ++ (answers_of sentence.status sentence.answers sentence.unknown ++ codes "</li>"))))
+
+-- a sentence, in an element whose class is the name of its status
+unfoldable pub sentence_item : SentenceView → List ℕ
+sentence_item sentence = item_of_class (status_name sentence.status) sentence
 
 -- the forms of the article at a path: a text to add, and a button that opens a session
 unfoldable pub forms_at : List ℕ → List ℕ
@@ -94,7 +102,7 @@ offered menu =
     ++ (flat_map token_item menu.of ++ (flat_map token_item menu.verb ++ flat_map token_item menu.adjective))))
 
 -- the forms of a session: a token to type, and buttons that take one back and commit them all
-abbrev pub session_forms : ℕ → List ℕ
+unfoldable pub session_forms : ℕ → List ℕ
 session_forms session =
     codes "<form method=\"post\" action=\"/session/" ++ (decimal session
     ++ (codes "/type\"><input name=\"token\"><button>Type</button></form><form method=\"post\" action=\"/session/" ++ (decimal session

@@ -1,50 +1,72 @@
 // The index of all words.
-ghost use Rattle.std.specs.Prelude.{◌≡◌, IfOk};
+ghost use Rattle.std.specs.Prelude.{◌≡◌, ◌++◌, IfOk, OnOk};
 ghost use Rattle.std.specs.List.{flat_map};
 ghost use Rattle.std.specs.String.{string_bytes};
-ghost use Rattle.pages.specs.Pages.{canonical, word_item, index_body, index_page};
+ghost use Rattle.pages.specs.Pages.{canonical, word_link, word_item, index_body, index_page};
 
-use crate::html::{coded, escaped, framed};
+use crate::html::{closed, opened, push_coded, push_escaped};
 use lexicon::Kind;
 use std::alloc::Global;
 use wiki_base::{Memory, Text8};
 use wiki_talk::{WordView, kind_name};
 
+// About the bytes of a page without its words, and of a word.
+const ROOM: usize = 512;
+
+const ROOM_OF_A_WORD: usize = 64;
+
 /// All words, with a form for a new one.
+#[tactic(auto, unfolding(crate::specs::Html::framed))]
 pub fn index_page(alloc: Global, words: &[WordView]) -> Result<Text8, Memory>
     ensures { IfOk result (λ page. page ≡ index_page words.now) }
 {
-    let body = index_body(alloc, words)?;
-    framed(alloc, "AceWiki", body.as_str())
+    let room = words
+        .len()
+        .saturating_mul(ROOM_OF_A_WORD)
+        .saturating_add(ROOM);
+    let mut page = opened(alloc, "AceWiki", room)?;
+    push_body(&mut page, words)?;
+    closed(page)
 }
 
-fn index_body(alloc: Global, words: &[WordView]) -> Result<String, Memory>
-    ensures { IfOk result (λ body. string_bytes body ≡ index_body words.now) }
+fn push_body(page: &mut String, words: &[WordView]) -> Result<(), Memory>
+    ensures { OnOk result (string_bytes page.new ≡ string_bytes page.old ++ index_body words.now) }
 {
-    let items = word_items(alloc, words)?;
-    Ok(format!(in alloc;
-        "<h1>AceWiki</h1><ul>{items}</ul><form method=\"post\" action=\"/word\"><input name=\"kind\"><input name=\"forms\"><button>Add</button></form>"
+    page.push_str("<h1>AceWiki</h1><ul>")?;
+    push_words(page, words)?;
+    Ok(page.push_str(
+        "</ul><form method=\"post\" action=\"/word\"><input name=\"kind\"><input name=\"forms\"><button>Add</button></form>",
     )?)
 }
 
-fn word_items(alloc: Global, words: &[WordView]) -> Result<String, Memory>
-    ensures { IfOk result (λ items. string_bytes items ≡ flat_map word_item words.now) }
+fn push_words(page: &mut String, words: &[WordView]) -> Result<(), Memory>
+    ensures { OnOk result (string_bytes page.new ≡ string_bytes page.old ++ flat_map word_item words.now) }
 {
-    let mut items = String::new(alloc);
     for word in words {
-        items.push_str(word_item(alloc, word)?.as_str())?;
+        push_word(page, word)?;
     }
-    Ok(items)
+    Ok(())
 }
 
-fn word_item(alloc: Global, word: &WordView) -> Result<String, Memory>
-    ensures { IfOk result (λ item. string_bytes item ≡ word_item word.now) }
+#[tactic(auto, unfolding(crate::specs::Pages::word_item))]
+fn push_word(page: &mut String, word: &WordView) -> Result<(), Memory>
+    ensures { OnOk result (string_bytes page.new ≡ string_bytes page.old ++ word_item word.now) }
 {
-    let form = canonical(word);
-    let path = coded(alloc, form)?;
-    let shown = escaped(alloc, form)?;
+    page.push_str("<li>")?;
+    push_link(page, canonical(word))?;
     let kind = kind_name(word.kind);
-    Ok(format!(in alloc; "<li><a href=\"/article/{path}\">{shown}</a> ({kind})</li>")?)
+    Ok(write!(page, " ({kind})</li>")?)
+}
+
+#[tactic(auto, unfolding(crate::specs::Pages::word_link))]
+fn push_link(page: &mut String, form: &str) -> Result<(), Memory>
+    ensures { OnOk result (string_bytes page.new ≡ string_bytes page.old ++ word_link form.now) }
+{
+    page.push_str("<a href=\"/article/")?;
+    push_coded(page, form)?;
+    page.push_str("\">")?;
+    push_escaped(page, form)?;
+    Ok(page.push_str("</a>")?)
 }
 
 fn canonical(word: &WordView) -> &str

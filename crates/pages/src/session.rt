@@ -4,12 +4,16 @@ ghost use Rattle.std.specs.List.{flat_map};
 ghost use Rattle.std.specs.String.{string_bytes};
 ghost use Rattle.pages.specs.Pages.{token_item, offered, session_forms, session_body, session_page};
 
-use crate::html::{escaped, framed};
+use crate::html::{closed, opened, push_escaped};
 use std::alloc::Global;
 use wiki_base::{Memory, Text8};
 use wiki_talk::MenuView;
 
+// About the bytes of a page with a menu of a usual size.
+const ROOM: usize = 4096;
+
 /// A session's tokens and what may follow them.
+#[tactic(auto, unfolding(crate::specs::Html::framed))]
 pub fn session_page(
     alloc: Global,
     session: u32,
@@ -18,52 +22,56 @@ pub fn session_page(
 ) -> Result<Text8, Memory>
     ensures { IfOk result (λ page. page ≡ session_page session shown.now menu.now) }
 {
-    let body = session_body(alloc, session, shown, menu)?;
-    framed(alloc, "Editor", body.as_str())
+    let mut page = opened(alloc, "Editor", ROOM)?;
+    push_body(&mut page, session, shown, menu)?;
+    closed(page)
 }
 
-fn session_body(alloc: Global, session: u32, shown: &str, menu: &MenuView) -> Result<String, Memory>
-    ensures { IfOk result (λ body. string_bytes body ≡ session_body session shown.now menu.now) }
+fn push_body(page: &mut String, session: u32, shown: &str, menu: &MenuView) -> Result<(), Memory>
+    ensures { OnOk result (string_bytes page.new ≡ string_bytes page.old ++ session_body session shown.now menu.now) }
 {
-    let shown = escaped(alloc, shown)?;
-    let offered = offered(alloc, menu)?;
-    let forms = session_forms(alloc, session)?;
-    Ok(format!(in alloc; "<p>{shown}</p><ul>{offered}</ul>{forms}")?)
+    page.push_str("<p>")?;
+    push_escaped(page, shown)?;
+    page.push_str("</p><ul>")?;
+    push_offered(page, menu)?;
+    page.push_str("</ul>")?;
+    push_forms(page, session)
 }
 
-fn session_forms(alloc: Global, session: u32) -> Result<String, Memory>
-    ensures { IfOk result (λ forms. string_bytes forms ≡ session_forms session) }
+#[tactic(auto, unfolding(crate::specs::Pages::session_forms))]
+fn push_forms(page: &mut String, session: u32) -> Result<(), Memory>
+    ensures { OnOk result (string_bytes page.new ≡ string_bytes page.old ++ session_forms session) }
 {
-    Ok(format!(in alloc;
+    Ok(write!(
+        page,
         "<form method=\"post\" action=\"/session/{session}/type\"><input name=\"token\"><button>Type</button></form><form method=\"post\" action=\"/session/{session}/back\"><button>Back</button></form><form method=\"post\" action=\"/session/{session}/commit\"><button>Commit</button></form>"
     )?)
 }
 
-fn offered(alloc: Global, menu: &MenuView) -> Result<String, Memory>
-    ensures { IfOk result (λ items. string_bytes items ≡ offered menu.now) }
+fn push_offered(page: &mut String, menu: &MenuView) -> Result<(), Memory>
+    ensures { OnOk result (string_bytes page.new ≡ string_bytes page.old ++ offered menu.now) }
 {
-    let function = token_items(alloc, menu.function.as_slice())?;
-    let name = token_items(alloc, menu.name.as_slice())?;
-    let noun = token_items(alloc, menu.noun.as_slice())?;
-    let of = token_items(alloc, menu.of.as_slice())?;
-    let verb = token_items(alloc, menu.verb.as_slice())?;
-    let adjective = token_items(alloc, menu.adjective.as_slice())?;
-    Ok(format!(in alloc; "{function}{name}{noun}{of}{verb}{adjective}")?)
+    push_tokens(page, menu.function.as_slice())?;
+    push_tokens(page, menu.name.as_slice())?;
+    push_tokens(page, menu.noun.as_slice())?;
+    push_tokens(page, menu.of.as_slice())?;
+    push_tokens(page, menu.verb.as_slice())?;
+    push_tokens(page, menu.adjective.as_slice())
 }
 
-fn token_items(alloc: Global, tokens: &[Text8]) -> Result<String, Memory>
-    ensures { IfOk result (λ items. string_bytes items ≡ flat_map token_item tokens.now) }
+fn push_tokens(page: &mut String, tokens: &[Text8]) -> Result<(), Memory>
+    ensures { OnOk result (string_bytes page.new ≡ string_bytes page.old ++ flat_map token_item tokens.now) }
 {
-    let mut items = String::new(alloc);
     for token in tokens {
-        items.push_str(token_item(alloc, token.as_str())?.as_str())?;
+        push_token(page, token.as_str())?;
     }
-    Ok(items)
+    Ok(())
 }
 
-fn token_item(alloc: Global, token: &str) -> Result<String, Memory>
-    ensures { IfOk result (λ item. string_bytes item ≡ token_item token.now) }
+fn push_token(page: &mut String, token: &str) -> Result<(), Memory>
+    ensures { OnOk result (string_bytes page.new ≡ string_bytes page.old ++ token_item token.now) }
 {
-    let token = escaped(alloc, token)?;
-    Ok(format!(in alloc; "<li>{token}</li>")?)
+    page.push_str("<li>")?;
+    push_escaped(page, token)?;
+    Ok(page.push_str("</li>")?)
 }

@@ -1,5 +1,5 @@
 // Articles are begun, changed and ended.
-use articles::{Articles, Sentence};
+use articles::{Articles, Sentence, Shared};
 use lists::Copied;
 use std::alloc::Global;
 use std::test::Fail;
@@ -9,7 +9,10 @@ use wiki_talk::Status;
 fn sentence(alloc: Global, status: Status) -> Result<Sentence, Memory> {
     let mut tokens = Tokens::new(alloc);
     tokens.push(Token::from_str(alloc, "x")?)?;
-    Ok(Sentence { tokens, status })
+    Ok(Sentence {
+        tokens: Shared::new(alloc, tokens)?,
+        status,
+    })
 }
 
 #[test]

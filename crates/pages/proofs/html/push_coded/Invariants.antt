@@ -2,7 +2,7 @@ use Rattle.std.proofs.Common.{◌≡◌, ◌++◌}
 use Rattle.std.specs.String.{string_bytes}
 use Rattle.form_urlencoded.specs.Form.{byte_serialize}
 use Rattle.form_urlencoded.specs.Serialize.{serialized_text}
-use Rattle.pages.proofs.html.coded.Given as goal
+use Rattle.pages.proofs.html.push_coded.Given as goal
 
 abbrev pub invariant-loop-piece : goal.invariant-loop-piece
-invariant-loop-piece l = string_bytes l.coded ++ serialized_text l.piece-iterator ≡ byte_serialize l.text
+invariant-loop-piece l = string_bytes l.page ++ serialized_text l.piece-iterator ≡ string_bytes l.fn.page ++ byte_serialize l.text

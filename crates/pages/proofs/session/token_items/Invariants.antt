@@ -1,8 +1,0 @@
-use Rattle.std.proofs.Common.{◌≡◌, take}
-use Rattle.std.specs.List.{flat_map}
-use Rattle.std.specs.String.{string_bytes}
-use Rattle.pages.specs.Pages.{token_item}
-use Rattle.pages.proofs.session.token_items.Given as goal
-
-abbrev pub invariant-loop-token : goal.invariant-loop-token
-invariant-loop-token l = string_bytes l.items ≡ flat_map token_item (take l.token-index l.tokens)

@@ -4,8 +4,6 @@
 #[cfg(test)]
 mod links;
 #[cfg(test)]
-mod memory;
-#[cfg(test)]
 mod over_memory;
 #[cfg(test)]
 mod over_tcp;

@@ -1,7 +1,7 @@
 // Calls of a link, each without what its contract says, so that a test over many of them is proved cheaply.
 ghost use Rattle.std.specs.Prelude.{◌<◌, length};
 
-use crate::memory::{Client, Does, MemorySockets};
+use memory_sockets::{Client, Does, MemorySockets};
 use socket_link::{SocketLink, Sockets, Times};
 use std::alloc::Global;
 use std::cell::Cell;

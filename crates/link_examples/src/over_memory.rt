@@ -1,6 +1,6 @@
 // Times, turns and failures, over sockets in memory.
 use crate::links::{answered, answers, close, linked, listens, next};
-use crate::memory::{Client, Does, got, is_shut, some_clients};
+use memory_sockets::{Client, Does, got, is_shut, some_clients};
 use std::alloc::Global;
 use std::cell::Cell;
 use std::test::Fail;

@@ -1,4 +1,4 @@
-// Sockets in memory: what happens on them is told beforehand, each with its time. The clients and the clock are a test's.
+// The sockets that a link runs over.
 ghost use Rattle.std.specs.Prelude.{◌≡◌, ◌<◌, ◌≤◌, ◌∷◌, [], length};
 ghost use Rattle.wiki_io.specs.declared.links.Event.{Event};
 ghost use Rattle.wiki_io.specs.Link.{with_more};
@@ -6,35 +6,17 @@ ghost use Rattle.socket_link.specs.Moved.{MovedFits};
 ghost use Rattle.socket_link.specs.Deeds.{Takes, Closes, Goes, with_deed};
 ghost use Rattle.socket_link.specs.Told.{opening_of, piece_of, with_time, with_opening, with_writing};
 
+use crate::clients::{Client, Does};
 use socket_link::{Accepted, Moved, Ready, Sockets};
 use std::alloc::Global;
 use std::cell::Cell;
 use std::collections::VecDeque;
-use std::test::Fail;
 use std::time::Duration;
+use wiki_base::Memory;
 
-/// What a client does.
-#[derive(Clone, Copy, Drop)]
-pub(crate) enum Does {
-    Comes,
-    Sends(&'static [u8]),
-    Ends,
-    /// It makes room for so many bytes more.
-    Takes(usize),
-}
-
+/// Sockets whose clients do what a script says. The clients and the clock are a test's.
 #[derive(Drop)]
-pub(crate) struct Client {
-    number: Option<u32>,
-    sent: VecDeque<u8>,
-    has_ended: bool,
-    room: usize,
-    got: Vec<u8>,
-    is_shut: bool,
-}
-
-#[derive(Drop)]
-pub(crate) struct MemorySockets<'a> {
+pub struct MemorySockets<'a> {
     // in seconds
     now: &'a Cell<u64>,
     script: VecDeque<(u64, usize, Does)>,
@@ -46,44 +28,16 @@ pub(crate) struct MemorySockets<'a> {
     calls: u64,
 }
 
-// So many clients, none of which has come.
-pub(crate) fn some_clients(alloc: Global, count: usize) -> Result<Vec<Client>, Fail> {
-    let mut clients = Vec::new(alloc);
-    for _ in 0..count {
-        clients.push(Client {
-            number: None,
-            sent: VecDeque::new(alloc),
-            has_ended: false,
-            room: 0,
-            got: Vec::new(alloc),
-            is_shut: false,
-        })?;
-    }
-    Ok(clients)
-}
-
-// What a client has got.
-pub(crate) fn got(clients: &[Client], client: usize) -> &[u8] {
-    match clients.get(client) {
-        Some(client) => &client.got,
-        None => &[],
-    }
-}
-
-// The writing side towards a client was shut down.
-pub(crate) fn is_shut(clients: &[Client], client: usize) -> bool {
-    clients.get(client).is_some_and(|client| client.is_shut)
-}
-
 impl<'a> MemorySockets<'a> {
-    // The clients do these things, each at its second. The sockets take no byte but where a client makes room.
-    pub(crate) fn new(
+    /// The clients do these things, each at its second. The sockets take no byte but where a client makes room. Of the calls
+    /// that can fail, counted from 1, the one of this number does.
+    pub fn new(
         alloc: Global,
         now: &'a Cell<u64>,
         clients: &'a mut [Client],
         script: &[(u64, usize, Does)],
         fails: u64,
-    ) -> Result<MemorySockets<'a>, Fail> {
+    ) -> Result<MemorySockets<'a>, Memory> {
         let mut left = VecDeque::new(alloc);
         for step in script {
             left.push_back(*step)?;
@@ -141,9 +95,7 @@ impl<'a> MemorySockets<'a> {
                 let _ = self.queue.push_back(place);
             }
             Does::Sends(bytes) => {
-                for byte in bytes {
-                    let _ = client.sent.push_back(*byte);
-                }
+                let _ = client.sent.extend_from_slice(bytes);
             }
             Does::Ends => client.has_ended = true,
             Does::Takes(size) => client.room = client.room.saturating_add(size),
@@ -225,20 +177,11 @@ impl Sockets for MemorySockets<'_> {
         let Some(client) = self.client(number) else {
             return Moved::End;
         };
-        let size = client.sent.len().min(buf.len());
-        if size == 0 {
-            return if client.has_ended {
-                Moved::End
-            } else {
-                Moved::Nothing
-            };
+        match client.give(buf) {
+            0 if client.has_ended => Moved::End,
+            0 => Moved::Nothing,
+            size => Moved::Bytes(size),
         }
-        for place in &mut buf[..size] {
-            if let Some(byte) = client.sent.pop_front() {
-                *place = byte;
-            }
-        }
-        Moved::Bytes(size)
     }
 
     fn pass_over(&mut self, number: u32) -> Moved {
@@ -254,14 +197,9 @@ impl Sockets for MemorySockets<'_> {
         let Some(client) = self.client(number) else {
             return Moved::End;
         };
-        let size = bytes.len().min(client.room);
-        if size == 0 {
-            return Moved::Nothing;
-        }
-        client.room -= size;
-        match client.got.extend_from_slice(&bytes[..size]) {
-            Ok(()) => Moved::Bytes(size),
-            Err(_) => Moved::End,
+        match client.get(bytes) {
+            0 => Moved::Nothing,
+            size => Moved::Bytes(size),
         }
     }
 

@@ -4,7 +4,9 @@
 mod article;
 mod articles;
 mod sentences;
+mod shared;
 
 pub use article::Article;
 pub use articles::Articles;
 pub use sentences::{Sentence, Sentences};
+pub use shared::Shared;

@@ -1,12 +1,13 @@
 // Sentences as they are stored.
+use crate::shared::Shared;
 use lists::{Copied, List, Memory};
 use wiki_base::Tokens;
 use wiki_talk::Status;
 
-/// A sentence: its tokens, and what became of it.
+/// A sentence: its tokens, which copies of it share, and what became of it.
 #[derive(Drop)]
 pub struct Sentence {
-    pub tokens: Tokens,
+    pub tokens: Shared<Tokens>,
     pub status: Status,
 }
 

@@ -1,10 +1,12 @@
 // What stood before a change.
-use articles::Sentences;
-use owl_eval::CheckedModel;
+use articles::{Sentences, Shared};
+use owl_eval::Interp;
 use wiki_base::WordId;
 use wiki_parts::Senses;
 
-/// The sentences of an article and what they mean, with the checked model that was kept while it had them.
+/// The sentences of an article and what they mean, with the interpretation that was kept while it had them. All three are shared
+/// with what the wiki has where that is the same. The axioms that the interpretation is a model of are those of the sentences of
+/// all articles, and aren't kept once more.
 #[derive(Drop)]
 pub struct Kept {
     /// The word of the article.
@@ -12,5 +14,5 @@ pub struct Kept {
     pub sentences: Sentences,
     /// The meaning of each, in the same order.
     pub senses: Senses,
-    pub model: CheckedModel,
+    pub interp: Shared<Interp>,
 }

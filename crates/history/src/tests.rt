@@ -1,9 +1,8 @@
 // Changes are taken back and done again in the order of a stack, the newest hundred of them.
 use crate::history::History;
 use crate::kept::Kept;
-use articles::Sentences;
-use logic_terms::Axioms;
-use owl_eval::{CheckedModel, Interp};
+use articles::{Sentences, Shared};
+use owl_eval::Interp;
 use std::alloc::Global;
 use std::test::Fail;
 use wiki_base::WordId;
@@ -12,15 +11,12 @@ use wiki_parts::Senses;
 // What stood before the change with a number, told by the word of its article.
 fn kept(alloc: Global, number: u32) -> Result<Kept, Fail> {
     let interp = Interp::new(alloc, 1, Vec::new(alloc), Vec::new(alloc), Vec::new(alloc))?;
-    match CheckedModel::new(interp, Axioms::new(alloc)) {
-        Ok(model) => Ok(Kept {
-            article: WordId(number),
-            sentences: Sentences::new(alloc),
-            senses: Senses::new(alloc),
-            model,
-        }),
-        Err(_) => Err("a model of no axioms".into()),
-    }
+    Ok(Kept {
+        article: WordId(number),
+        sentences: Sentences::new(alloc),
+        senses: Senses::new(alloc),
+        interp: Shared::new(alloc, interp)?,
+    })
 }
 
 // Which change it was.

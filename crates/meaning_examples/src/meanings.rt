@@ -7,12 +7,10 @@ use codeco_checked::CheckedGrammar;
 use derivations::{Cut, cut, plain_least};
 use drs_build::{Built, build};
 use lexicon::{Kind, Lexicon, forms};
-use logic_terms::{Cause, Drs};
 use owl_eval::{Interp, drs_true, in_class, is_model};
-use owl_text::{print_axiom, print_class};
 use std::alloc::Global;
 use std::test::Fail;
-use wiki_base::{Text, Text8, WordId};
+use wiki_base::{Text, WordId};
 
 pub const MARY: WordId = WordId(1);
 
@@ -86,42 +84,6 @@ pub fn built(
         return Err(Fail::new("a sentence"));
     };
     Ok(build(alloc, grammar, &skeleton)?)
-}
-
-fn cause_name(cause: Cause) -> &'static str {
-    match cause {
-        Cause::Shared => "shared",
-        Cause::Cycle => "cycle",
-        Cause::NoRoot => "noroot",
-        Cause::Equality => "equality",
-        Cause::Free => "free",
-    }
-}
-
-fn stated(alloc: Global, lexicon: &Lexicon, drs: &Drs) -> Result<Text8, Fail> {
-    let mut text = Text8::new(alloc);
-    match map_statement(alloc, drs)? {
-        Mapped::Axioms(axioms) => {
-            for axiom in axioms.as_slice() {
-                text.push_str(print_axiom(alloc, axiom, lexicon)?.as_str())?;
-                text.push_str(";")?;
-            }
-        }
-        Mapped::Outside(cause) => text.push_str(cause_name(cause))?,
-    }
-    Ok(text)
-}
-
-/// The axioms with a semicolon behind each, or the class, or the cause.
-pub fn printed(alloc: Global, lexicon: &Lexicon, built: &Built) -> Result<Text8, Fail> {
-    match built {
-        Built::Statement(drs) => stated(alloc, lexicon, drs),
-        Built::Question(drs, asked) => match map_question(alloc, drs, *asked)? {
-            Asked::Class(class) => Ok(print_class(alloc, &class, lexicon)?),
-            Asked::Outside(cause) => Ok(Text8::from_str(alloc, cause_name(cause))?),
-        },
-        Built::Free(_) => Ok(Text8::from_str(alloc, cause_name(Cause::Free))?),
-    }
 }
 
 /// Whether the structure of a statement is true in each of the interpretations exactly where all its axioms are, and that

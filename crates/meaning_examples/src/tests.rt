@@ -1,7 +1,7 @@
 use crate::interpretations::{all_interpretations, interpretation};
-use crate::meanings::{agree, built, printed, words};
+use crate::meanings::{agree, built, words};
 use crate::sentences::{
-    CONDITIONALS, OF_EVERYTHING, OF_NAMES, OF_SOMETHING, OUTSIDE, QUESTIONS, Row, STRUCTURES,
+    CONDITIONALS, OF_EVERYTHING, OF_NAMES, OF_SOMETHING, QUESTIONS, Row, STRUCTURES,
 };
 use crate::structures::shown;
 use ace_grammar::built_in;
@@ -11,40 +11,25 @@ use std::alloc::Global;
 use std::process::Abort;
 use std::test::Fail;
 
-fn mean(rt: &impl Abort, alloc: Global, rows: &[Row]) -> Result<(), Fail> {
-    let grammar = built_in(alloc)?;
-    let lexicon = words(alloc, &grammar)?;
-    for (text, expected) in rows {
-        let meant = built(alloc, &grammar, &lexicon, text)?;
-        assert_eq!(rt;
-            printed(alloc, &lexicon, &meant)?.as_str(),
-            *expected,
-            "{text}"
-        );
-    }
-    Ok(())
-}
-
 fn have_structures(rt: &impl Abort, alloc: Global, rows: &[Row]) -> Result<(), Fail> {
     let grammar = built_in(alloc)?;
     let lexicon = words(alloc, &grammar)?;
     for (text, expected) in rows {
         let meant = built(alloc, &grammar, &lexicon, text)?;
-        assert_eq!(rt;
-            shown(alloc, &lexicon, &meant)?.as_str(),
-            *expected,
+        assert!(rt;
+            shown(alloc, &lexicon, &meant)?.as_str() == *expected,
             "{text}"
         );
     }
     Ok(())
 }
 
-// The structures and the axioms of the rows are true in the same interpretations.
-fn say_the_same(rt: &impl Abort, alloc: Global, rows: &[Row]) -> Result<(), Fail> {
+// The structures and the axioms of the sentences are true in the same interpretations.
+fn say_the_same(rt: &impl Abort, alloc: Global, texts: &[&str]) -> Result<(), Fail> {
     let grammar = built_in(alloc)?;
     let lexicon = words(alloc, &grammar)?;
     let interps = all_interpretations(alloc)?;
-    for (text, _) in rows {
+    for text in texts {
         let meant = built(alloc, &grammar, &lexicon, text)?;
         assert!(rt; agree(alloc, interps.as_slice(), &meant)?, "{text}");
     }
@@ -66,39 +51,9 @@ fn mary_owns_a_dog_where_she_is_a_dog_that_owns_itself(rt: HostRuntime) -> Resul
     };
     for (code, truth) in [(0, false), (2, false), (4, false), (6, true)] {
         let interp = interpretation(alloc, 1, code)?;
-        assert_eq!(rt; drs_true(alloc, &interp, &drs)?, truth, "{code}");
+        assert!(rt; drs_true(alloc, &interp, &drs)? == truth, "{code}");
     }
     Ok(())
-}
-
-#[test]
-fn statements_on_names_have_their_axioms(rt: HostRuntime) -> Result<(), Fail> {
-    mean(&rt, rt.alloc(), OF_NAMES.as_slice())
-}
-
-#[test]
-fn statements_on_something_have_their_axioms(rt: HostRuntime) -> Result<(), Fail> {
-    mean(&rt, rt.alloc(), OF_SOMETHING.as_slice())
-}
-
-#[test]
-fn statements_on_everything_have_their_axioms(rt: HostRuntime) -> Result<(), Fail> {
-    mean(&rt, rt.alloc(), OF_EVERYTHING.as_slice())
-}
-
-#[test]
-fn conditionals_have_their_axioms(rt: HostRuntime) -> Result<(), Fail> {
-    mean(&rt, rt.alloc(), CONDITIONALS.as_slice())
-}
-
-#[test]
-fn questions_have_their_classes(rt: HostRuntime) -> Result<(), Fail> {
-    mean(&rt, rt.alloc(), QUESTIONS.as_slice())
-}
-
-#[test]
-fn sentences_outside_have_their_causes(rt: HostRuntime) -> Result<(), Fail> {
-    mean(&rt, rt.alloc(), OUTSIDE.as_slice())
 }
 
 #[test]

@@ -31,11 +31,11 @@ fn has_its_declarations_and_its_rules(rt: HostRuntime) -> Result<(), Fail> {
     let built = built_in(rt.alloc())?;
     assert!(rt; built.is_labelled());
     let grammar = built.grammar();
-    assert_eq!(rt; grammar.features().len(), 7);
-    assert_eq!(rt; grammar.atoms().len(), 10);
-    assert_eq!(rt; grammar.terminals().len(), 31);
-    assert_eq!(rt; grammar.categories().len(), 37);
-    assert_eq!(rt; grammar.rules().len(), 81);
+    assert!(rt; grammar.features().len() == 7);
+    assert!(rt; grammar.atoms().len() == 10);
+    assert!(rt; grammar.terminals().len() == 31);
+    assert!(rt; grammar.categories().len() == 37);
+    assert!(rt; grammar.rules().len() == 81);
     assert_named(&rt, grammar.terminals(), 13, b"something");
     assert_named(&rt, grammar.atoms(), 6, b"part");
     Ok(())
@@ -59,10 +59,10 @@ fn rules_are_those_of_the_text(rt: HostRuntime) -> Result<(), Fail> {
         let rule = grammar.rules().get(number - 1);
         assert!(rt; rule.label == Some(label), "label of rule {number}");
         assert_named(&rt, grammar.categories(), rule.head.name, head);
-        assert_eq!(rt; rule.closing, closing, "rule {number}");
-        assert_eq!(rt; rule.body.len(), body.len(), "rule {number}");
+        assert!(rt; rule.closing == closing, "rule {number}");
+        assert!(rt; rule.body.len() == body.len(), "rule {number}");
         for (element, kind) in rule.body.as_slice().iter().zip(body) {
-            assert_eq!(rt; sign(element), *kind, "rule {number}");
+            assert!(rt; sign(element) == *kind, "rule {number}");
         }
     }
     Ok(())

@@ -39,7 +39,7 @@ fn each_early_fault_is_told_at_its_first_place(rt: HostRuntime) -> Result<(), Fa
         ),
     ] {
         let found = early_fault(&rt, text)?;
-        assert_eq!(rt; found, fault, "{text}");
+        assert!(rt; found == fault, "{text}");
     }
     Ok(())
 }
@@ -73,7 +73,7 @@ fn sixteen_are_the_most_of_a_rule(rt: HostRuntime) -> Result<(), Fail> {
         ),
     ] {
         let found = early_fault(&rt, text)?;
-        assert_eq!(rt; found, fault, "{text}");
+        assert!(rt; found == fault, "{text}");
     }
     Ok(())
 }
@@ -95,7 +95,7 @@ fn sixteen_features_are_the_most_of_a_category(rt: HostRuntime) -> Result<(), Fa
         ),
     ] {
         let found = early_fault(&rt, text)?;
-        assert_eq!(rt; found, fault, "{text}");
+        assert!(rt; found == fault, "{text}");
     }
     Ok(())
 }
@@ -113,7 +113,7 @@ fn sixty_four_bytes_are_the_most_of_a_terminal(rt: HostRuntime) -> Result<(), Fa
         ),
     ] {
         let found = early_fault(&rt, text)?;
-        assert_eq!(rt; found, fault, "{text}");
+        assert!(rt; found == fault, "{text}");
     }
     Ok(())
 }

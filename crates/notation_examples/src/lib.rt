@@ -6,15 +6,11 @@ mod built_in;
 #[cfg(test)]
 mod early_faults;
 #[cfg(test)]
-mod late_faults;
-#[cfg(test)]
 mod numbers;
 #[cfg(test)]
 mod printed;
 #[cfg(test)]
 mod reading;
-#[cfg(test)]
-mod sentences;
 #[cfg(test)]
 mod terms;
 #[cfg(test)]

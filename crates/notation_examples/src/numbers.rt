@@ -20,7 +20,7 @@ fn numbered(alloc: Global, text: &str) -> Result<Grammar, Fail> {
 }
 
 fn assert_names(rt: &impl Abort, symbols: &Symbols, names: &[&[u8]]) {
-    assert_eq!(rt; symbols.len(), names.len());
+    assert!(rt; symbols.len() == names.len());
     for (symbol, name) in symbols.as_slice().iter().zip(names) {
         assert!(rt; symbol.as_bytes() == *name);
     }
@@ -63,7 +63,7 @@ fn labels_have_their_names(rt: HostRuntime) -> Result<(), Fail> {
         ("text --> [a].", None),
     ] {
         let grammar = numbered(rt.alloc(), text)?;
-        assert_eq!(rt; only_rule(&grammar)?.label, label, "{text}");
+        assert!(rt; only_rule(&grammar)?.label == label, "{text}");
     }
     Ok(())
 }
@@ -84,7 +84,7 @@ fn two_positions(rule: &Rule) -> Option<(u8, u8)> {
 fn variables_come_in_order_of_their_features(rt: HostRuntime) -> Result<(), Fail> {
     let text = "feature k: p. feature m: p. text --> < +a(m: X, k: ?Y) #X #Y.";
     let grammar = numbered(rt.alloc(), text)?;
-    assert_eq!(rt; two_positions(only_rule(&grammar)?), Some((1, 0)));
+    assert!(rt; two_positions(only_rule(&grammar)?) == Some((1, 0)));
     Ok(())
 }
 
@@ -96,12 +96,9 @@ fn reference(rule: &Rule) -> Option<&Pattern> {
 }
 
 fn assert_marked(rt: &impl Abort, pattern: &Pattern) {
-    assert_eq!(rt; pattern.cat.name, 6);
-    assert_eq!(rt;
-        pattern.cat.feats.as_slice(),
-        [(5, Term::Var(1))].as_slice()
-    );
-    assert_eq!(rt; pattern.taken.as_slice(), [(4, 0)].as_slice());
+    assert!(rt; pattern.cat.name == 6);
+    assert!(rt; pattern.cat.feats.as_slice() == [(5, Term::Var(1))].as_slice());
+    assert!(rt; pattern.taken.as_slice() == [(4, 0)].as_slice());
 }
 
 #[test]

@@ -76,9 +76,6 @@ fn smallest_grammar(alloc: Global) -> Result<Grammar, Memory>
 #[test]
 fn a_checked_grammar_is_printed(rt: HostRuntime) -> Result<(), Fail> {
     let grammar = CheckedGrammar::admit(smallest_grammar(rt.alloc())?);
-    assert_eq!(rt;
-        print_grammar(rt.alloc(), &grammar)?.as_bytes(),
-        b"text-->[a].".as_slice()
-    );
+    assert!(rt; print_grammar(rt.alloc(), &grammar)?.as_bytes() == b"text-->[a].".as_slice());
     Ok(())
 }

@@ -33,8 +33,8 @@ fn a_variable_takes_the_value_that_it_needs(rt: HostRuntime) -> Result<(), Fail>
     let word = Value::Word(WordId(9));
     let mut env = Env::new();
     assert!(rt; unify(&cat, &ground(7, word, word), &mut env));
-    assert_eq!(rt; env.get(1), Some(word));
-    assert_eq!(rt; env.get(2), None);
+    assert!(rt; env.get(1) == Some(word));
+    assert!(rt; env.get(2) == None);
     Ok(())
 }
 
@@ -44,7 +44,7 @@ fn names_and_values_that_differ_leave_the_map_as_it_was(rt: HostRuntime) -> Resu
     let mut env = Env::new();
     assert!(rt; !unify(&cat, &ground(7, Value::Pos(1), Value::Pos(2)), &mut env));
     assert!(rt; !unify(&cat, &ground(8, Value::Pos(1), Value::Pos(1)), &mut env));
-    assert_eq!(rt; env.copy().get(1), None);
+    assert!(rt; env.copy().get(1) == None);
     Ok(())
 }
 
@@ -61,6 +61,6 @@ fn a_grammar_is_copied_with_its_names(rt: HostRuntime) -> Result<(), Fail> {
         names,
         Rules::new(alloc),
     );
-    assert_eq!(rt; grammar.copy()?.categories().len(), 1);
+    assert!(rt; grammar.copy()?.categories().len() == 1);
     Ok(())
 }

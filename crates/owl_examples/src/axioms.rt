@@ -65,7 +65,7 @@ fn each_row_has_its_axioms(rt: HostRuntime) -> Result<(), Fail> {
         ("SameIndividual(:a :b :c)", "1 = 2; 2 = 3; "),
         ("DifferentIndividuals(:a :b :c)", "1 # 2; 1 # 3; 2 # 3; "),
     ] {
-        assert_eq!(rt; said(rt.alloc(), lines)?.as_str(), wanted, "{lines}");
+        assert!(rt; said(rt.alloc(), lines)?.as_str() == wanted, "{lines}");
     }
     Ok(())
 }
@@ -105,7 +105,7 @@ fn classes_are_in_normal_form(rt: HostRuntime) -> Result<(), Fail> {
             "1 < and(not 2 3 ); ",
         ),
     ] {
-        assert_eq!(rt; said(rt.alloc(), lines)?.as_str(), wanted, "{lines}");
+        assert!(rt; said(rt.alloc(), lines)?.as_str() == wanted, "{lines}");
     }
     Ok(())
 }
@@ -126,7 +126,7 @@ fn annotations_are_passed_over_wherever_they_may_stand(rt: HostRuntime) -> Resul
         ),
         ("SameIndividual(Annotation(:p) :a :b)", "1 = 2; "),
     ] {
-        assert_eq!(rt; said(rt.alloc(), lines)?.as_str(), wanted, "{lines}");
+        assert!(rt; said(rt.alloc(), lines)?.as_str() == wanted, "{lines}");
     }
     Ok(())
 }
@@ -161,7 +161,7 @@ fn entities_are_numbered_as_they_come(rt: HostRuntime) -> Result<(), Fail> {
             "",
         ),
     ] {
-        assert_eq!(rt; named(rt.alloc(), text)?.as_str(), wanted, "{text}");
+        assert!(rt; named(rt.alloc(), text)?.as_str() == wanted, "{text}");
     }
     Ok(())
 }
@@ -172,12 +172,9 @@ fn names_with_a_meaning_are_known_by_their_full_iris(rt: HostRuntime) -> Result<
         "Prefix(w:=<http://www.w3.org/2002/07/owl#No>)Ontology(ClassAssertion(w:thing w:thing))";
     match reading(rt.alloc(), text.as_bytes()) {
         Some(Ok(doc)) => {
-            assert_eq!(rt;
-                axioms(rt.alloc(), &doc.axioms)?.as_str(),
-                "not thing has 1; "
-            );
+            assert!(rt; axioms(rt.alloc(), &doc.axioms)?.as_str() == "not thing has 1; ");
         }
-        _ => assert_eq!(rt; "refused", ""),
+        _ => assert!(rt; "refused" == ""),
     }
     Ok(())
 }

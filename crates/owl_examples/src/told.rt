@@ -136,19 +136,3 @@ pub fn reading(alloc: Global, text: &[u8]) -> Option<Result<OwlDoc, OwlFault>> {
     }
     Some(read_owl(alloc, text))
 }
-
-/// The fault of a text.
-pub fn fault(alloc: Global, text: &[u8]) -> Option<OwlFault> {
-    match reading(alloc, text) {
-        Some(Err(fault)) => Some(fault),
-        _ => None,
-    }
-}
-
-/// Whether a text is a file of the profile.
-pub fn is_read(alloc: Global, text: &[u8]) -> bool {
-    match reading(alloc, text) {
-        Some(Ok(_)) => true,
-        _ => false,
-    }
-}

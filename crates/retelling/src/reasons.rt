@@ -121,7 +121,7 @@ fn line_of_sentence(
     ensures { IfOk result (λ text. text ≡ line_of_sentence wiki.now.state.pages (record { article = article; at = at }) sentence.now) }
 {
     let form = form_of(wiki, article);
-    let text = show(alloc, wiki.grammar().grammar(), &sentence.tokens)?;
+    let text = show(alloc, wiki.grammar().grammar(), sentence.tokens.get())?;
     told(alloc, form, at, text.as_str())
 }
 

@@ -4,7 +4,6 @@ use Rattle.std.specs.Option.{IsSomeAnd}
 use Rattle.wiki_base.specs.declared.numbers.WordId.{WordId}
 use Rattle.codeco_terms.specs.GrammarParts.{GrammarParts}
 use Rattle.lexicon.specs.Words.{Listed}
-use Rattle.owl_eval.specs.Checked.{kept_claims}
 use Rattle.wiki_talk.specs.declared.limits.TheConstants.{MOST_SENTENCES}
 use Rattle.articles.specs.declared.sentences.Sentence.{Sentence}
 use Rattle.articles.specs.declared.article.Article.{Article}
@@ -71,13 +70,14 @@ can_by one other kept there grammar words same can =
           (subst (λ (w : Listed). MeanEach one.grammar w kept.sentences (meanings_in kept.senses)) (sym words) can.mean);
       short = can.short;
       few = subst (λ (ss : List Sentence). length ss ≤ MOST_SENTENCES) (sym sentences) can.few;
+      claims = can.claims;
       known =
-          subst (λ (ss : List Sentence). AreStated other.grammar other.words ss (kept_claims kept.model)) (sym sentences)
-          (subst (λ (h : GrammarParts). AreStated h other.words (sentences_in (with_sentences one kept.article kept.sentences).articles)
-          (kept_claims kept.model))
+          subst (λ (ss : List Sentence). AreStated other.grammar other.words ss can.claims) (sym sentences)
+          (subst (λ (h : GrammarParts). AreStated h other.words (sentences_in (with_sentences one kept.article kept.sentences).articles) can.claims)
           (sym grammar)
-          (subst (λ (w : Listed). AreStated one.grammar w (sentences_in (with_sentences one kept.article kept.sentences).articles) (kept_claims kept.model))
+          (subst (λ (w : Listed). AreStated one.grammar w (sentences_in (with_sentences one kept.article kept.sentences).articles) can.claims)
           (sym words) can.known));
+      model = can.model;
     }
 
 -- the same sentences are there where it was put back

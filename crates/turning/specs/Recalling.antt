@@ -1,6 +1,5 @@
 -- A wiki and its history, as the program holds them, and what holds of both together.
 use Rattle.std.specs.Prelude.{List, [], ◌∷◌, map}
-use Rattle.owl_eval.specs.Checked.{kept_interp}
 use Rattle.history.specs.declared.kept.Kept.{Kept}
 use Rattle.history.specs.Entries.{Entries}
 use Rattle.wiki_parts.specs.State.{State}
@@ -10,7 +9,7 @@ use Rattle.turning.specs.Turning.{Former, Recalling}
 
 -- an entry of the history as what stood
 abbrev pub former : Kept → Former
-former kept = record { article = kept.article; sentences = kept.sentences; interpretation = kept_interp kept.model }
+former kept = record { article = kept.article; sentences = kept.sentences; interpretation = kept.interp }
 
 -- a wiki and its history
 abbrev pub recalling : Holding → Entries → Recalling

@@ -130,10 +130,11 @@ fn undo(wiki: &mut Wiki, history: &mut History) -> Result<Reply, Memory>
         return Ok(out_of_numbers());
     }
     let form = wiki.form_of(word)?;
+    let model = wiki.model_of(last)?;
     let now = standing(wiki, word)?;
     match history.undone(now) {
         Some(before) => {
-            let _done = wiki.put_back(before);
+            let _done = wiki.put_back(before, model);
             Ok(Reply::Undo { article: form })
         }
         None => unreachable!(),
@@ -157,10 +158,11 @@ fn redo(wiki: &mut Wiki, history: &mut History) -> Result<Reply, Memory>
         return Ok(out_of_numbers());
     }
     let form = wiki.form_of(word)?;
+    let model = wiki.model_of(next)?;
     let now = standing(wiki, word)?;
     match history.redone(now) {
         Some(after) => {
-            let _done = wiki.put_back(after);
+            let _done = wiki.put_back(after, model);
             Ok(Reply::Redo { article: form })
         }
         None => unreachable!(),

@@ -45,7 +45,12 @@ impl Wiki {
         ensures { IfOk result (IsMeaningOf self.now.state.pages sentence.now) }
     {
         self.is_fit();
-        match sense_of(self.alloc, self.grammar(), self.lexicon(), &sentence.tokens)? {
+        match sense_of(
+            self.alloc,
+            self.grammar(),
+            self.lexicon(),
+            sentence.tokens.get(),
+        )? {
             Some(sense) => Ok(told(self.alloc, sentence.status, sense)),
             None => unreachable!(),
         }

@@ -8,7 +8,7 @@ ghost use Rattle.wiki_core.specs.Counting.{plain_parts, part_at, parts_from, par
 ghost use Rattle.wiki_core.specs.Parts.{is_same_place, is_taken, is_counted};
 
 use crate::wiki::Wiki;
-use articles::{Article, Sentence};
+use articles::{Article, Sentence, Shared};
 use explain::Part;
 use lists::List;
 use logic_terms::Axioms;
@@ -88,7 +88,7 @@ fn push_sentences(
     taken: Option<Place>,
     word: WordId,
     sentences: &[Sentence],
-    senses: &[Sense],
+    senses: &[Shared<Sense>],
 ) -> Result<(), Memory>
     requires { length sentences.now ≤ MOST_SENTENCES }
     ensures { OnOk result (plain_parts parts.new ≡ plain_parts parts.old ++ parts_from taken word 0 sentences.now (meanings_in senses.now)) }
@@ -111,7 +111,7 @@ fn push_sentence(
     taken: Option<Place>,
     place: Place,
     sentence: &Sentence,
-    sense: &Sense,
+    sense: &Shared<Sense>,
 ) -> Result<(), Memory>
     ensures { OnOk result (plain_parts parts.new ≡ plain_parts parts.old ++ part_at taken place sentence.now.status (meaning_shown sense.now)) }
 {
@@ -127,10 +127,10 @@ fn push_sentence(
 }
 
 // A copy of the axioms that a sentence states.
-fn stated(alloc: Global, sense: &Sense) -> Result<Axioms, Memory>
+fn stated(alloc: Global, sense: &Shared<Sense>) -> Result<Axioms, Memory>
     ensures { IfOk result (λ axioms. claims_of axioms ≡ stated_by (meaning_shown sense.now)) }
 {
-    match sense {
+    match sense.get() {
         Sense::Stating(axioms) => axioms.copy(),
         Sense::Outside(_) | Sense::Asking(_) | Sense::AskingOutside(_) => Ok(Axioms::new(alloc)),
     }

@@ -6,26 +6,15 @@ ghost use Rattle.wiki_parts.specs.Knowledge.{is_asserted};
 ghost use Rattle.wiki_parts.specs.Found.{meaning_shown};
 
 use crate::meanings::Sense;
-use articles::{Article, Sentence};
+use articles::{Article, Sentence, Shared};
 use lists::List;
 use logic_terms::Axioms;
 use std::alloc::Global;
 use wiki_base::Memory;
 use wiki_talk::Status;
 
-/// What is kept of the sentences of an article, in order.
-pub type Senses = List<Sense>;
-
-/// The same meanings once more.
-pub fn copied_senses(alloc: Global, senses: &Senses) -> Result<Senses, Memory>
-    ensures { IfOk result (λ copied. meanings_in copied ≡ meanings_in senses.now) }
-{
-    let mut copied = Vec::new(alloc);
-    for place in 0..senses.len() {
-        copied.push(senses.get(place).copy(alloc)?)?;
-    }
-    Ok(Senses::from_vec(copied))
-}
+/// What is kept of the sentences of an article, in order. Copies share what a sentence means.
+pub type Senses = List<Shared<Sense>>;
 
 /// The axioms that are known with these in place of those of some sentences of an article, from a place to before another.
 pub fn known_around(
@@ -82,13 +71,13 @@ pub fn push_sentences(
     alloc: Global,
     known: &mut Axioms,
     sentences: &[Sentence],
-    senses: &[Sense],
+    senses: &[Shared<Sense>],
 ) -> Result<(), Memory>
     ensures { OnOk result (claims_of known.new ≡ claims_of known.old ++ known_of sentences.now (meanings_in senses.now)) }
 {
     let count = sentences.len().min(senses.len());
     for place in 0..count {
-        push_sentence(alloc, known, &sentences[place], &senses[place])?;
+        push_sentence(alloc, known, &sentences[place], senses[place].get())?;
     }
     Ok(())
 }

@@ -21,9 +21,7 @@ pub use faults::Fault;
 pub use grammars::{grammar_read, reground};
 pub use judging::{Judgement, judged};
 pub use keeping::first_model;
-pub use knowing::{
-    Senses, copied_senses, is_asserted, known_around, push_all, push_articles, push_sentences,
-};
+pub use knowing::{Senses, is_asserted, known_around, push_all, push_articles, push_sentences};
 pub use meanings::{Sense, is_faithful, sense_of};
 pub use meant::told_meaning;
 pub use names::live_names;

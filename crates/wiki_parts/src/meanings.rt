@@ -29,20 +29,6 @@ pub enum Sense {
     AskingOutside(Cause),
 }
 
-impl Sense {
-    /// The same meaning once more.
-    pub fn copy(&self, alloc: Global) -> Result<Sense, Memory>
-        ensures { IfOk result (λ copied. meaning_shown copied ≡ meaning_shown self.now) }
-    {
-        match self {
-            Sense::Stating(axioms) => Ok(Sense::Stating(axioms.copy()?)),
-            Sense::Outside(cause) => Ok(Sense::Outside(*cause)),
-            Sense::Asking(class) => Ok(Sense::Asking(class.copy(alloc)?)),
-            Sense::AskingOutside(cause) => Ok(Sense::AskingOutside(*cause)),
-        }
-    }
-}
-
 /// The meaning of tokens, if they have a derivation. Whatever tokens mean keeps the truth of their structure.
 pub fn sense_of(
     alloc: Global,

@@ -55,6 +55,7 @@ pub fn has_form(sentence: &Sentence, forms: &Forms) -> bool
 {
     sentence
         .tokens
+        .get()
         .as_slice()
         .iter()
         .any(|token| is_form(forms, token.as_str()))

@@ -2,7 +2,8 @@
 use Rattle.std.specs.Prelude.{◌≡◌, ◌≤◌, List, length, All, option_map, Some}
 use Rattle.wiki_base.specs.declared.numbers.WordId.{WordId}
 use Rattle.wiki_base.specs.declared.tokens.TheConstants.{MOST_TOKENS}
-use Rattle.owl_eval.specs.Checked.{kept_interp, kept_claims}
+use Rattle.logic_terms.specs.Concept.{Claim}
+use Rattle.logic_terms.specs.Reading.{IsModel}
 use Rattle.wiki_talk.specs.declared.limits.TheConstants.{MOST_SENTENCES}
 use Rattle.articles.specs.declared.sentences.Sentence.{Sentence}
 use Rattle.articles.specs.Articles.{article_of, with_change, HasArticle}
@@ -18,21 +19,23 @@ with_sentences state word sentences = record state { articles = with_change stat
 
 -- What was kept can be put back: the article is there; each of its former sentences has a derivation from the present words, the meaning
 -- that was kept, and a status that fits it, and none has too many tokens; with them there are no more sentences than there may be, and
--- the wiki knows exactly the axioms of the model that was kept.
+-- the interpretation that was kept is a model of exactly the axioms that the wiki then knows.
 pub record CanBePut (state : State) (kept : Kept) : Type 0 where
   pub there : HasArticle state.articles kept.article
   pub mean : MeanEach state.grammar state.words kept.sentences (meanings_in kept.senses)
   pub short : All (λ sentence. length sentence.tokens ≤ MOST_TOKENS) kept.sentences
   pub few : length (sentences_in (with_sentences state kept.article kept.sentences).articles) ≤ MOST_SENTENCES
-  pub known : Knows (with_sentences state kept.article kept.sentences) (kept_claims kept.model)
+  pub claims : List Claim
+  pub known : Knows (with_sentences state kept.article kept.sentences) claims
+  pub model : IsModel kept.interp claims
 
--- the wiki in which it was put back: the article's former sentences, and the interpretation of the former model
+-- the wiki in which it was put back: the article's former sentences, and the former interpretation
 abbrev pub put_back : Holding → Kept → Holding
-put_back wiki kept = record { state = with_sentences wiki.state kept.article kept.sentences; interpretation = kept_interp kept.model }
+put_back wiki kept = record { state = with_sentences wiki.state kept.article kept.sentences; interpretation = kept.interp }
 
 -- what is kept of an article that is there: its sentences, and the interpretation that the wiki keeps; and it can be put back
 pub record IsOfArticle (wiki : Holding) (word : WordId) (kept : Kept) : Type 0 where
   pub article : kept.article ≡ word
   pub sentences : option_map (λ found. found.sentences) (article_of wiki.state.articles word) ≡ Some kept.sentences
-  pub interpretation : kept_interp kept.model ≡ wiki.interpretation
+  pub interpretation : kept.interp ≡ wiki.interpretation
   pub can : CanBePut wiki.state kept

@@ -23,7 +23,7 @@ ghost use Rattle.wiki_store.specs.Unchanged.{KeepsInterpretation};
 use crate::base::Base;
 use crate::joining::{is_settled, join, stated, undo};
 use crate::standing::standing;
-use articles::{Articles, Sentence};
+use articles::{Articles, Sentence, Shared};
 use derivation_trees::show;
 use wiki_base::{Memory, Text8, Tokens, WordId};
 use wiki_parts::{Fault, Sense, Senses};
@@ -34,8 +34,8 @@ use wiki_talk::{Reply, Request, Status};
 pub(crate) struct Fresh {
     pub(crate) word: WordId,
     pub(crate) at: u32,
-    pub(crate) tokens: Tokens,
-    pub(crate) sense: Sense,
+    pub(crate) tokens: Shared<Tokens>,
+    pub(crate) sense: Shared<Sense>,
 }
 
 impl Base {
@@ -53,7 +53,7 @@ impl Base {
         ensures kept { OnErr result (self.new ≡ self.old) }
     {
         let fresh = self.fresh(form, given, text)?;
-        let shown = self.shown(&fresh.tokens)?;
+        let shown = self.shown(fresh.tokens.get())?;
         let status = self.insert(fresh)?;
         Ok(Reply::Add { status, shown })
     }
@@ -88,8 +88,8 @@ impl Base {
         Ok(Fresh {
             word,
             at,
-            tokens,
-            sense,
+            tokens: Shared::new(self.alloc, tokens)?,
+            sense: Shared::new(self.alloc, sense)?,
         })
     }
 

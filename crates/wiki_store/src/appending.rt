@@ -11,6 +11,7 @@ ghost use Rattle.wiki_store.specs.Appending.{end_of, with_appended, SpendsAtEnd}
 
 use crate::adding::Fresh;
 use crate::base::Base;
+use articles::Shared;
 use lists::Copied;
 use wiki_base::{Memory, Tokens, WordId};
 use wiki_parts::{Sense, sense_of};
@@ -31,8 +32,8 @@ impl Base {
         let fresh = Fresh {
             word,
             at: self.end(word),
-            tokens: tokens.copy()?,
-            sense: self.meant(tokens)?,
+            tokens: Shared::new(self.alloc, tokens.copy()?)?,
+            sense: Shared::new(self.alloc, self.meant(tokens)?)?,
         };
         self.insert(fresh)
     }

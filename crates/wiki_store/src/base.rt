@@ -8,13 +8,13 @@ ghost use Rattle.wiki_parts.specs.Faults.{IsCause, Tells};
 ghost use Rattle.articles.specs.Articles.{new_article};
 ghost use Rattle.lexicon.specs.Words.{with_word, add_refusal};
 
+use crate::keeping::Keeping;
 use crate::remembered::Remembered;
 use articles::Articles;
 use codeco_checked::CheckedGrammar;
 use derivations::{Cut, cut};
 use lexicon::{Forms, Kind, Lexicon, MOST_WORDS};
 use lists::Copied;
-use owl_eval::CheckedModel;
 use std::alloc::Global;
 use std::marker::Model;
 use wiki_base::{Memory, Place, Text8, Tokens, WordId};
@@ -36,7 +36,7 @@ pub(crate) struct Base {
     // What the sentences of each article mean.
     pub(crate) senses: Vec<Senses>,
     // A model of what is known.
-    pub(crate) kept: CheckedModel,
+    pub(crate) kept: Keeping,
     // The last number that was given to a word.
     pub(crate) last: u32,
 }
@@ -83,7 +83,7 @@ impl Base {
     {
         let lexicon = Lexicon::new(alloc, grammar.grammar())?;
         let articles = Articles::new(alloc)?;
-        let kept = first_model(alloc)?;
+        let kept = Keeping::new(alloc, first_model(alloc)?)?;
         Ok(Base {
             alloc,
             grammar,

@@ -22,7 +22,7 @@ use crate::base::Base;
 use crate::joining::{is_settled, join, stated};
 use crate::removing::model_without;
 use crate::standing::standing;
-use articles::Sentence;
+use articles::{Sentence, Shared};
 use wiki_base::{Memory, Text8, WordId};
 use wiki_parts::Fault;
 use wiki_talk::{Refusal, Reply, Request, Status};
@@ -37,7 +37,7 @@ impl Base {
         ensures kept { OnErr result (self.new ≡ self.old) }
     {
         let fresh = self.edited(form, at, text)?;
-        let shown = self.shown(&fresh.tokens)?;
+        let shown = self.shown(fresh.tokens.get())?;
         let status = self.replace(fresh)?;
         Ok(Reply::Edit { status, shown })
     }
@@ -63,8 +63,8 @@ impl Base {
         Ok(Fresh {
             word,
             at,
-            tokens,
-            sense,
+            tokens: Shared::new(self.alloc, tokens)?,
+            sense: Shared::new(self.alloc, sense)?,
         })
     }
 

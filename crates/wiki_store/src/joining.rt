@@ -10,18 +10,19 @@ ghost use Rattle.wiki_parts.specs.Kept.{stated_by, meanings_in, known_of, known_
 ghost use Rattle.wiki_parts.specs.Knowledge.{is_asserted};
 ghost use Rattle.wiki_store.specs.Settled.{IsTrueIn};
 
-use articles::{Article, Sentence};
+use crate::keeping::Keeping;
+use articles::{Article, Sentence, Shared};
 use logic_terms::Axioms;
-use owl_eval::{CheckedModel, is_model};
+use owl_eval::is_model;
 use std::alloc::Global;
 use wiki_base::Memory;
 use wiki_parts::{Sense, Senses, is_asserted};
 
 // Whether it is a statement that is true in the kept interpretation, so that no search is needed.
-pub(crate) fn is_settled(kept: &CheckedModel, sense: &Sense) -> bool
+pub(crate) fn is_settled(kept: &Keeping, sense: &Shared<Sense>) -> bool
     ensures { IsTrue result → IsTrueIn (kept_interp kept.now) (meaning_shown sense.now) }
 {
-    match sense {
+    match sense.get() {
         Sense::Stating(own) => is_model(kept.interp(), own),
         Sense::Outside(_) | Sense::Asking(_) | Sense::AskingOutside(_) => false,
     }
@@ -30,7 +31,7 @@ pub(crate) fn is_settled(kept: &CheckedModel, sense: &Sense) -> bool
 // Puts axioms that are true in the kept interpretation in place of those of some sentences of an article, from a place to
 // before another.
 pub(crate) fn join(
-    kept: &mut CheckedModel,
+    kept: &mut Keeping,
     articles: &[Article],
     senses: &[Senses],
     place: usize,
@@ -59,7 +60,7 @@ pub(crate) fn join(
 
 // Takes the axioms of some sentences of an article out, from a place to before another.
 pub(crate) fn leave(
-    kept: &mut CheckedModel,
+    kept: &mut Keeping,
     articles: &[Article],
     senses: &[Senses],
     place: usize,
@@ -78,7 +79,7 @@ pub(crate) fn leave(
 
 // Takes out so many axioms that were put in at a place between two sentences.
 pub(crate) fn undo(
-    kept: &mut CheckedModel,
+    kept: &mut Keeping,
     articles: &[Article],
     senses: &[Senses],
     place: usize,
@@ -142,7 +143,7 @@ fn count_in(articles: &[Article], senses: &[Senses], most: usize) -> usize
 }
 
 // How many axioms those of the sentences state that are asserted, at most so many.
-fn count_of(sentences: &[Sentence], senses: &[Sense], most: usize) -> usize
+fn count_of(sentences: &[Sentence], senses: &[Shared<Sense>], most: usize) -> usize
     requires { length (known_of sentences.now (meanings_in senses.now)) ≤ most }
     ensures { result ≡ length (known_of sentences.now (meanings_in senses.now)) }
 {
@@ -154,23 +155,23 @@ fn count_of(sentences: &[Sentence], senses: &[Sense], most: usize) -> usize
 }
 
 // How many axioms a sentence adds to what is known.
-fn count_stated(sentence: &Sentence, sense: &Sense) -> usize
+fn count_stated(sentence: &Sentence, sense: &Shared<Sense>) -> usize
     ensures { result ≡ length (if is_asserted sentence.now.status then stated_by (meaning_shown sense.now) else []) }
 {
     if !is_asserted(sentence.status) {
         return 0;
     }
-    match sense {
+    match sense.get() {
         Sense::Stating(own) => own.len(),
         Sense::Outside(_) | Sense::Asking(_) | Sense::AskingOutside(_) => 0,
     }
 }
 
 // Copies of the axioms that a sentence states.
-pub(crate) fn stated(alloc: Global, sense: &Sense) -> Result<Axioms, Memory>
+pub(crate) fn stated(alloc: Global, sense: &Shared<Sense>) -> Result<Axioms, Memory>
     ensures { IfOk result (λ own. claims_of own ≡ stated_by (meaning_shown sense.now)) }
 {
-    match sense {
+    match sense.get() {
         Sense::Stating(own) => own.copy(),
         Sense::Outside(_) | Sense::Asking(_) | Sense::AskingOutside(_) => Ok(Axioms::new(alloc)),
     }

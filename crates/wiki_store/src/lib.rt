@@ -7,6 +7,7 @@ mod base;
 mod causes;
 mod changing;
 mod joining;
+mod keeping;
 mod lending;
 mod reading;
 mod recalling;

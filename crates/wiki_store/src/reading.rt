@@ -23,7 +23,7 @@ use crate::base::Base;
 use crate::remembered::Remembered;
 use absorb::absorb;
 use answers::Answers;
-use articles::Sentence;
+use articles::{Sentence, Shared};
 use consequences::Consequences;
 use derivation_trees::show;
 use lexicon::MOST_WORDS;
@@ -79,7 +79,7 @@ impl Base {
         &self,
         remembered: &mut Remembered,
         sentences: &[Sentence],
-        senses: &[Sense],
+        senses: &[Shared<Sense>],
     ) -> Result<SentenceViews, Memory>
         requires mean { MeanEach self.now.state.grammar self.now.state.words sentences.now (meanings_in senses.now) }
         requires remembered { All (IsRemembered self.now) remembered.old.rows }
@@ -108,7 +108,7 @@ impl Base {
         &self,
         remembered: &Remembered,
         names: &Names,
-        senses: &[Sense],
+        senses: &[Shared<Sense>],
     ) -> Result<Option<Consequences>, Memory>
         requires { names.now ≡ live_names self.now.state.words }
         ensures { IfOk result (λ known. IfSome known (λ k. AbsorbsKnown self.now.state names.now (theory_in k))) }
@@ -130,7 +130,7 @@ impl Base {
         names: &Names,
         known: &Option<Consequences>,
         sentence: &Sentence,
-        sense: &Sense,
+        sense: &Shared<Sense>,
     ) -> Result<SentenceView, Memory>
         requires names { names.now ≡ live_names self.now.state.words }
         requires absorbed { IfSome known.now (λ k. AbsorbsKnown self.now.state names.now (theory_in k)) }
@@ -141,7 +141,7 @@ impl Base {
         ensures unknown { IfOk result (KeptHasUnknown self.now sentence.now) }
         ensures remembered { All (IsRemembered self.now) remembered.new.rows }
     {
-        match sense {
+        match sense.get() {
             Sense::Asking(class) => self.question_view(remembered, names, known, sentence, class),
             Sense::Stating(_) | Sense::Outside(_) | Sense::AskingOutside(_) => {
                 self.plain_view(sentence)
@@ -191,7 +191,14 @@ impl Base {
     {
         prove!(self.lexicon.len() <= MOST_WORDS);
         let _ = self.grammar.grammar();
-        answers_of(self.alloc, known, class, &self.kept, names, self.budget)
+        answers_of(
+            self.alloc,
+            known,
+            class,
+            self.kept.model(),
+            names,
+            self.budget,
+        )
     }
 
     // A question for a class with these answers as it is told.
@@ -210,7 +217,7 @@ impl Base {
         let grammar = self.grammar.grammar();
         Ok(SentenceView {
             status: sentence.status,
-            text: show(self.alloc, grammar, &sentence.tokens)?,
+            text: show(self.alloc, grammar, sentence.tokens.get())?,
             answers: spelled(self.alloc, &self.lexicon, &answers.yes)?,
             unknown: spelled(self.alloc, &self.lexicon, &answers.unknown)?,
         })
@@ -224,7 +231,7 @@ impl Base {
     {
         Ok(SentenceView {
             status: sentence.status,
-            text: show(self.alloc, self.grammar.grammar(), &sentence.tokens)?,
+            text: show(self.alloc, self.grammar.grammar(), sentence.tokens.get())?,
             answers: Text8s::new(self.alloc),
             unknown: Text8s::new(self.alloc),
         })
@@ -232,9 +239,9 @@ impl Base {
 }
 
 // Whether one of the sentences asks for a class whose answers aren't remembered.
-fn asks_anew(remembered: &Remembered, senses: &[Sense]) -> bool {
+fn asks_anew(remembered: &Remembered, senses: &[Shared<Sense>]) -> bool {
     for sense in senses {
-        if let Sense::Asking(class) = sense {
+        if let Sense::Asking(class) = sense.get() {
             if remembered.find(class).is_none() {
                 return true;
             }

@@ -11,6 +11,7 @@ ghost use Rattle.wiki_store.specs.Unchanged.{KeepsInterpretation};
 
 use crate::base::Base;
 use crate::joining::leave;
+use crate::keeping::Keeping;
 use articles::Article;
 use lists::Copied;
 use logic_terms::Axioms;
@@ -105,10 +106,10 @@ pub(crate) fn model_without(
     alloc: Global,
     articles: &[Article],
     senses: &[Senses],
-    kept: &CheckedModel,
+    kept: &Keeping,
     place: usize,
     at: u32,
-) -> Result<CheckedModel, Memory>
+) -> Result<Keeping, Memory>
     requires around { IsAround articles.now senses.now place at (at + 1) }
     requires known { kept_claims kept.now ≡ known_in articles.now senses.now }
     ensures interp { IfOk result (λ model. kept_interp model ≡ kept_interp kept.now) }
@@ -117,8 +118,9 @@ pub(crate) fn model_without(
     let at = at as usize;
     let none = Axioms::new(alloc);
     let known = known_around(alloc, articles, senses, place, at, &none, at + 1)?;
+    let interp = kept.shared()?;
     match CheckedModel::new(kept.interp().copy()?, known) {
-        Ok(model) => Ok(model),
+        Ok(model) => Ok(Keeping::sharing(model, interp)),
         Err(_) => unreachable!(),
     }
 }

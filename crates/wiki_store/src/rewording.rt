@@ -23,7 +23,7 @@ ghost use Rattle.wiki_store.specs.Unchanged.{KeepsInterpretation};
 
 use crate::base::Base;
 use crate::sameness::same_sense;
-use articles::{Article, Sentence};
+use articles::{Article, Sentence, Shared};
 use codeco_checked::CheckedGrammar;
 use lexicon::{Forms, Kind, LexFault, Lexicon};
 use lists::Copied;
@@ -226,7 +226,7 @@ fn broken_in(
     lexicon: &Lexicon,
     forms: Option<&Forms>,
     article: &Article,
-    senses: &[Sense],
+    senses: &[Shared<Sense>],
 ) -> Result<Option<Place>, Memory>
     requires labelled { IsTrue (is_labelled grammar.now) }
     requires short { All (λ sentence. length sentence.tokens ≤ MOST_TOKENS) article.now.sentences }
@@ -256,7 +256,7 @@ fn keeps(
     lexicon: &Lexicon,
     forms: Option<&Forms>,
     sentence: &Sentence,
-    sense: &Sense,
+    sense: &Shared<Sense>,
 ) -> Result<bool, Memory>
     requires labelled { IsTrue (is_labelled grammar.now) }
     requires short { length sentence.now.tokens ≤ MOST_TOKENS }
@@ -268,8 +268,8 @@ fn keeps(
     if is_passed(sentence, forms) {
         return Ok(true);
     }
-    match sense_of(alloc, grammar, lexicon, &sentence.tokens)? {
-        Some(found) => Ok(same_sense(&found, sense)),
+    match sense_of(alloc, grammar, lexicon, sentence.tokens.get())? {
+        Some(found) => Ok(same_sense(&found, sense.get())),
         None => Ok(false),
     }
 }

@@ -9,7 +9,8 @@ ghost use Rattle.wiki_parts.specs.Judgements.{status_in, model_in};
 ghost use Rattle.wiki_parts.specs.Kept.{stated_by, known_around, IsAround, Stands};
 ghost use Rattle.wiki_parts.specs.Knowledge.{is_asserted, live_names};
 
-use articles::Article;
+use crate::keeping::Keeping;
+use articles::{Article, Shared};
 use lexicon::Lexicon;
 use owl_eval::CheckedModel;
 use std::alloc::Global;
@@ -24,13 +25,13 @@ pub(crate) fn standing(
     lexicon: &Lexicon,
     articles: &[Article],
     senses: &[Senses],
-    kept: &CheckedModel,
+    kept: &Keeping,
     budget: u64,
     place: usize,
     from: usize,
     to: usize,
-    sense: &Sense,
-) -> Result<(Status, Option<CheckedModel>), Memory>
+    sense: &Shared<Sense>,
+) -> Result<(Status, Option<Keeping>), Memory>
     requires around { IsAround articles.now senses.now place from to }
     requires known { kept_claims kept.now ≡ known_around articles.now senses.now place from [] to }
     requires over { IsTrue (are_over (live_names lexicon.now) (known_around articles.now senses.now place from (stated_by (meaning_shown sense.now)) to)) }
@@ -42,14 +43,15 @@ pub(crate) fn standing(
     ensures spent { IfOk result (λ made. made.0 ≡ Status.RedBudget
         → IsModel (kept_interp kept.now) (known_around articles.now senses.now place from (stated_by (meaning_shown sense.now)) to) → ⊥) }
 {
-    match sense {
+    match sense.get() {
         Sense::Stating(own) => {
             if own.is_empty() {
                 return Ok((Status::Asserted, None));
             }
             let known = known_around(alloc, articles, senses, place, from, own, to)?;
             let names = live_names(alloc, lexicon)?;
-            Ok(standing_by(judged(alloc, known, &names, kept, budget)?))
+            let (status, model) = standing_by(judged(alloc, known, &names, kept.model(), budget)?);
+            Ok((status, kept_by(alloc, model)?))
         }
         Sense::Outside(cause) => Ok((Status::Outside(*cause), None)),
         Sense::Asking(_) => Ok((Status::Question, None)),
@@ -66,5 +68,15 @@ fn standing_by(judgement: Judgement) -> (Status, Option<CheckedModel>)
         Judgement::Taken(model) => (Status::Asserted, Some(model)),
         Judgement::Contradiction => (Status::RedContradiction, None),
         Judgement::Spent => (Status::RedBudget, None),
+    }
+}
+
+// The model that is to be kept, if there is another one.
+fn kept_by(alloc: Global, model: Option<CheckedModel>) -> Result<Option<Keeping>, Memory>
+    ensures { IfOk result (λ kept. kept ≡ model) }
+{
+    match model {
+        Some(model) => Ok(Some(Keeping::new(alloc, model)?)),
+        None => Ok(None),
     }
 }

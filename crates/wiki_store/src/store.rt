@@ -10,6 +10,7 @@ use codeco_checked::CheckedGrammar;
 use history::Kept;
 use lexicon::Lexicon;
 use logic_terms::Axioms;
+use owl_eval::CheckedModel;
 use std::alloc::Global;
 use std::marker::Model;
 use wiki_base::{Memory, Text8, Tokens, WordId};
@@ -51,7 +52,8 @@ impl Store {
     ghost use Rattle.wiki_parts.specs.Places.{word_named};
     ghost use Rattle.wiki_parts.specs.State.{IsSound};
     ghost use Rattle.wiki_store.specs.Appending.{with_appended, SpendsAtEnd};
-    ghost use Rattle.wiki_store.specs.PuttingBack.{CanBePut, put_back, IsOfArticle};
+    ghost use Rattle.owl_eval.specs.Checked.{kept_interp, kept_claims};
+    ghost use Rattle.wiki_store.specs.PuttingBack.{with_sentences, CanBePut, put_back, IsOfArticle};
     ghost use Rattle.wiki_store.specs.Rewording.{IsGone, KeepsSentences};
     ghost use Rattle.wiki_store.specs.Spending.{SpendsBeyondKept, KeptHasEachUnknown};
     ghost use Rattle.wiki_store.specs.Step.{Step, Refuses, asks_store};
@@ -207,22 +209,34 @@ impl Store {
         self.base.unworded(word, lexicon);
     }
 
-    /// What the article of a word has now, if there is one, with a copy of the model that is kept.
+    /// What the article of a word has now, if there is one, with the interpretation that is kept. All is shared, and nothing is copied but
+    /// a list of what the sentences are.
     pub fn keep(&self, word: WordId) -> Result<Option<Kept>, Memory>
         ensures { IfOk result (λ kept. MatchOption kept (article_of self.now.state.articles word ≡ None) (IsOfArticle self.now word)) }
     {
         self.base.keep(word)
     }
 
-    /// Puts back what an article had: its sentences as they were, and the model of what is known with them. It is false exactly
-    /// where the article was changed as often as may be, and then nothing changes. It takes no memory.
-    pub fn put_back(&mut self, kept: Kept) -> bool
-        requires { CanBePut self.old.state kept }
+    /// The interpretation that was kept with what an article had, as a model of what is known where that is put back.
+    pub fn model_of(&self, kept: &Kept) -> Result<CheckedModel, Memory>
+        requires { CanBePut self.now.state kept.now }
+        ensures interp { IfOk result (λ model. kept_interp model ≡ kept.now.interp) }
+        ensures known { IfOk result (λ model. Knows (with_sentences self.now.state kept.now.article kept.now.sentences) (kept_claims model)) }
+    {
+        self.base.model_of(kept)
+    }
+
+    /// Puts back what an article had: its sentences as they were, and the model of what is known with them, which `model_of` gives.
+    /// It is false exactly where the article was changed as often as may be, and then nothing changes. It takes no memory.
+    pub fn put_back(&mut self, kept: Kept, model: CheckedModel) -> bool
+        requires can { CanBePut self.old.state kept }
+        requires interp { kept_interp model ≡ kept.interp }
+        requires known { Knows (with_sentences self.old.state kept.article kept.sentences) (kept_claims model) }
         ensures exactly { IsTrue result ↔ CanChange self.old.state.articles kept.article }
         ensures done { result ≡ true → self.new ≡ put_back self.old kept }
         ensures refused { result ≡ false → self.new ≡ self.old }
     {
-        if self.base.put_back(kept) {
+        if self.base.put_back(kept, model) {
             self.remembered.clear();
             true
         } else {

@@ -16,7 +16,12 @@ impl Base {
     {
         let word = self.named(form)?;
         let sentence = self.sentence(form, self.article(word), at)?;
-        match sense_of(self.alloc, &self.grammar, &self.lexicon, &sentence.tokens)? {
+        match sense_of(
+            self.alloc,
+            &self.grammar,
+            &self.lexicon,
+            sentence.tokens.get(),
+        )? {
             Some(sense) => Ok(Reply::Axioms {
                 meant: told_meaning(self.alloc, &self.lexicon, &sense)?,
             }),

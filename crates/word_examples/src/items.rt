@@ -16,7 +16,7 @@ fn added(alloc: Global) -> Result<List<u16>, Memory> {
 
 fn assert_items(rt: &impl Abort, list: &List<u16>, wanted: &[u16]) {
     assert!(rt; list.is_empty() == wanted.is_empty());
-    assert_eq!(rt; list.as_slice(), wanted);
+    assert!(rt; list.as_slice() == wanted);
 }
 
 #[test]

@@ -25,18 +25,18 @@ fn the_first_misplaced_character_is_told(rt: HostRuntime) {
         ("Zürich1", BadText::Letter(7)),
         ("a1b2", BadText::Letter(1)),
     ] {
-        assert_eq!(rt; fault(rt.alloc(), text), Some(*wanted), "{text}");
+        assert!(rt; fault(rt.alloc(), text) == Some(*wanted), "{text}");
     }
 }
 
 #[test]
 fn sixty_four_bytes_are_the_most(rt: HostRuntime) -> Result<(), Fail> {
     let longest = "aaaaaaaaaaaaaaaaaaaaaaaaaaaaaaaaaaaaaaaaaaaaaaaaaaaaaaaaaaaaaaaa";
-    assert_eq!(rt; longest.len(), 64);
+    assert!(rt; longest.len() == 64);
     assert!(rt; is_read(rt.alloc(), longest)?);
     let mut longer = String::from_str(rt.alloc(), longest)?;
     longer.push('1')?;
-    assert_eq!(rt; fault(rt.alloc(), longer.as_str()), Some(BadText::TooLong));
+    assert!(rt; fault(rt.alloc(), longer.as_str()) == Some(BadText::TooLong));
     Ok(())
 }
 

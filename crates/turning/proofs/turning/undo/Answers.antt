@@ -1,11 +1,13 @@
-use Rattle.std.proofs.Common.{◌≡◌, refl, inl, inr, sym, subst, ◌∙◌}
+use Rattle.std.proofs.Common.{◌≡◌, refl, inl, inr, sym, ap, subst, ◌∙◌}
 use Rattle.std.proofs.lemmas.Option.{same_Some}
 use Rattle.articles.specs.Articles.{CanChange}
 use Rattle.history.specs.declared.kept.Kept.{Kept}
-use Rattle.wiki_store.specs.PuttingBack.{IsOfArticle}
+use Rattle.owl_eval.specs.Checked.{kept_claims}
+use Rattle.wiki_parts.specs.Knowledge.{Knows}
+use Rattle.wiki_store.specs.PuttingBack.{with_sentences, IsOfArticle}
 use Rattle.wiki_core.specs.Holding.{pages_held}
 use Rattle.wiki_core.specs.PuttingBack.{put_back}
-use Rattle.turning.proofs.TurnLemmas.{has_nothing, newest_there, at_last, from_can, onto_can}
+use Rattle.turning.proofs.TurnLemmas.{has_nothing, newest_there, at_last, can_first, from_can, onto_can}
 use Rattle.turning.proofs.turning.undo.Goals as goal
 
 pub returns-in_default-clause-turn : goal.returns-in_default-clause-turn
@@ -24,6 +26,11 @@ returns-then-is_at_last_revision-clause-turn c =
       refl,
       refl,
     )
+
+pub model_of-requires : goal.model_of-requires
+model_of-requires c =
+    can_first c.args.wiki.now c.args.wiki.now c.args.history.now.past c.args.history.now.future c.requires.0 c.requires.1 c.is_kept.ensures.pages.in_order
+    c.in-Some.last.now (sym c.in-Some.ensures.entry)
 
 pub returns-clause-fits : goal.returns-clause-fits
 returns-clause-fits c =
@@ -44,3 +51,21 @@ returns-clause-fits c =
       onto_can old c.put_back-done.new.self c.args.history.now.past c.args.history.now.future c.requires.0 c.requires.1 ordered before newest c.in_ok-now.now is
           put,
     )
+
+pub put_back-done-requires-clause-interp : goal.put_back-done-requires-clause-interp
+put_back-done-requires-clause-interp c =
+    let same : c.in-Some.last.now ≡ c.in-Some-undone.before =
+    same_Some c.in-Some.last.now c.in-Some-undone.before (c.in-Some.ensures.entry ∙ sym c.in-Some-undone.ensures.entry) in
+    c.in_ok-model.ensures.interp ∙ ap (λ (kept : Kept). kept.interp) same
+
+pub put_back-done-requires-clause-known : goal.put_back-done-requires-clause-known
+put_back-done-requires-clause-known c =
+    let same : c.in-Some.last.now ≡ c.in-Some-undone.before =
+    same_Some c.in-Some.last.now c.in-Some-undone.before (c.in-Some.ensures.entry ∙ sym c.in-Some-undone.ensures.entry) in
+    subst (λ (kept : Kept). Knows (with_sentences c.args.wiki.now.state.pages kept.article kept.sentences) (kept_claims c.in_ok-model.model)) same
+    c.in_ok-model.ensures.known
+
+pub put_back-done-requires-clause-can : goal.put_back-done-requires-clause-can
+put_back-done-requires-clause-can c =
+    can_first c.args.wiki.now c.args.wiki.now c.args.history.now.past c.args.history.now.future c.requires.0 c.requires.1 c.is_kept.ensures.pages.in_order
+    c.in-Some-undone.before (sym c.in-Some-undone.ensures.entry)

@@ -1,9 +1,10 @@
-use Rattle.std.proofs.Common.{◌≡◌, Option, subst}
+use Rattle.std.proofs.Common.{◌≡◌, ℕ, List, Option, ap, subst, ◌∙◌}
 use Rattle.std.specs.Option.{MatchOption, option_copied}
 use Rattle.derivation_trees.specs.Sentences.{IsSentence}
 use Rattle.wiki_parts.specs.declared.meanings.Sense.{Sense}
 use Rattle.wiki_parts.specs.Found.{meaning_shown}
 use Rattle.wiki_parts.specs.Meanings.{Means}
+use Rattle.wiki_store.specs.Sameness.{same_meaning}
 use Rattle.wiki_store.proofs.FindLemmas.{told_kept, passed_keeps}
 use Rattle.wiki_store.proofs.rewording.keeps.Goals as goal
 
@@ -13,9 +14,14 @@ returns-in-Some c = λ g words means others.
     let lexicon = c.args.lexicon.now in
     let tokens = c.args.sentence.now.tokens in
     let after : Means other lexicon tokens (meaning_shown c.in-Some.found) =
-    subst (λ (o : Option Sense). MatchOption o (IsSentence other lexicon tokens → ⊥) (λ found. Means other lexicon tokens (meaning_shown found))) c.in-Some.is
-    c.in_ok-found.ensures.means in
-    told_kept g words other lexicon tokens (meaning_shown c.args.sense.now) (meaning_shown c.in-Some.found) c.same_sense.result c.same_sense.ensures means after
+    subst (λ (ts : List (List ℕ)). Means other lexicon ts (meaning_shown c.in-Some.found)) c.get.ensures
+    (subst
+    (λ (o : Option Sense). MatchOption o (IsSentence other lexicon c.get.result.now → ⊥)
+    (λ found. Means other lexicon c.get.result.now (meaning_shown found)))
+    c.in-Some.is
+    c.in_ok-found.ensures.means) in
+    told_kept g words other lexicon tokens (meaning_shown c.args.sense.now) (meaning_shown c.in-Some.found) c.same_sense.result
+    (c.same_sense.ensures ∙ ap (λ (s : Sense). same_meaning (meaning_shown c.in-Some.found) (meaning_shown s)) c.get-in-Some.ensures) means after
 
 pub returns-then-is_passed : goal.returns-then-is_passed
 returns-then-is_passed c = λ g words means others.

@@ -1,4 +1,4 @@
-use Rattle.std.proofs.Common.{subst}
+use Rattle.std.proofs.Common.{ℕ, List, subst}
 use Rattle.codeco_terms.specs.GrammarParts.{GrammarParts}
 use Rattle.lexicon.specs.Words.{Listed}
 use Rattle.wiki_parts.specs.Found.{meaning_shown}
@@ -12,10 +12,12 @@ returns c =
     let tokens = c.args.sentence.now.tokens in
     let meaning = meaning_shown c.in-Some.sense in
     let means : Means state.grammar state.words tokens meaning =
-    subst (λ (g : GrammarParts). Means g state.words tokens meaning) c.grammar.ensures.grammar
-    (subst (λ (words : Listed). Means c.grammar.result.now words tokens meaning) c.lexicon.ensures
-    (matched _ (λ found. Means c.grammar.result.now c.lexicon.result.now tokens (meaning_shown found)) c.in_ok-sense.field-0 c.in-Some.sense c.in-Some.is
-    c.in_ok-sense.ensures.means)) in
+    subst (λ (ts : List (List ℕ)). Means state.grammar state.words ts meaning) c.get.ensures
+    (subst (λ (g : GrammarParts). Means g state.words c.get.result.now meaning) c.grammar.ensures.grammar
+    (subst (λ (words : Listed). Means c.grammar.result.now words c.get.result.now meaning) c.lexicon.ensures
+    (matched _ (λ found. Means c.grammar.result.now c.lexicon.result.now c.get.result.now (meaning_shown found)) c.in_ok-sense.field-0 c.in-Some.sense
+    c.in-Some.is
+    c.in_ok-sense.ensures.means))) in
     record {
       status = c.told.ensures.status;
       meaning = meaning;

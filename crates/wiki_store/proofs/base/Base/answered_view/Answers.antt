@@ -1,4 +1,4 @@
-use Rattle.std.proofs.Common.{Bool, MatchBool, refl, sym, ap, subst, ◌∙◌}
+use Rattle.std.proofs.Common.{Bool, ℕ, List, MatchBool, refl, sym, ap, subst, ◌∙◌}
 use Rattle.codeco_terms.specs.GrammarParts.{GrammarParts}
 use Rattle.derivation_trees.specs.Cutting.{shown}
 use Rattle.logic_terms.specs.Shown.{concept_of}
@@ -27,7 +27,8 @@ returns-clause-tells c =
     } in
     record {
       status = refl;
-      text = c.in_ok-show.ensures.exact ∙ ap (λ (g : GrammarParts). shown g.terminals tokens)
+      text = c.in_ok-show.ensures.exact ∙ ap (λ (ts : List (List ℕ)). shown c.grammar-grammar.result.now.terminals ts) c.get.ensures
+          ∙ ap (λ (g : GrammarParts). shown g.terminals tokens)
           (c.grammar-grammar.ensures.grammar ∙ ap (λ (h : Holding). h.state.grammar) c.self.view_is);
       names =
           subst (λ (b : Bool). MatchBool b (AreAnswersTo state tokens c.in_ok-spelled.field-0 c.in_ok-spelled-2.field-0)

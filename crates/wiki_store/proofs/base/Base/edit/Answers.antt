@@ -1,4 +1,5 @@
-use Rattle.std.proofs.Common.{ℕ, sym, subst}
+use Rattle.std.proofs.Common.{ℕ, sym, subst, List, ap, ◌∙◌}
+use Rattle.derivation_trees.specs.Cutting.{shown}
 use Rattle.wiki_talk.specs.declared.replies.Reply.TheVariants as replies
 use Rattle.wiki_talk.specs.declared.requests.Request.TheVariants as requests
 use Rattle.wiki_parts.specs.Faults.{IsAbsent}
@@ -16,7 +17,8 @@ returns-clause-step c =
     c.replace.new.self.state) c.in_ok-fresh.ensures.at
     (edits-step c.args.self.now c.args.form.now c.in_ok-fresh.fresh.at c.args.text.now c.in_ok-fresh.fresh.word c.in_ok-fresh.fresh.tokens c.in_ok-status.status
     c.in_ok-fresh.ensures.named
-    c.in_ok-fresh.ensures.tokens c.replace.new.self.state (meaning_shown c.in_ok-fresh.fresh.sense) c.in_ok-shown.shown free c.in_ok-shown.ensures
+    c.in_ok-fresh.ensures.tokens c.replace.new.self.state (meaning_shown c.in_ok-fresh.fresh.sense) c.in_ok-shown.shown free
+    (c.in_ok-shown.ensures ∙ ap (λ (ts : List (List ℕ)). shown c.args.self.now.state.grammar.terminals ts) c.get.ensures)
     c.in_ok-fresh.ensures.means
     c.in_ok-status.ensures.status c.in_ok-status.ensures.after)
 

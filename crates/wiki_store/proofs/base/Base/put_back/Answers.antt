@@ -4,11 +4,13 @@ use Rattle.lexicon.specs.declared.words.TheConstants.{LAST_NUMBER}
 use Rattle.articles.specs.declared.article.Article.{Article}
 use Rattle.articles.specs.Articles.{article_of, CanChange}
 use Rattle.articles.proofs.PlaceLemmas.{found_is}
-use Rattle.owl_eval.specs.Checked.{kept_interp}
+use Rattle.owl_eval.specs.declared.checked.CheckedModel.{CheckedModel}
+use Rattle.owl_eval.specs.Checked.{kept_interp, kept_claims}
 use Rattle.wiki_parts.specs.Holding.{Holding}
 use Rattle.wiki_parts.specs.Kept.{IsKeeping}
+use Rattle.wiki_parts.specs.Knowledge.{Knows}
 use Rattle.wiki_parts.specs.State.{State}
-use Rattle.wiki_store.specs.PuttingBack.{CanBePut}
+use Rattle.wiki_store.specs.PuttingBack.{with_sentences, CanBePut}
 use Rattle.wiki_store.proofs.ChangeLemmas.{place-within, below-within}
 use Rattle.wiki_store.proofs.PutBackLemmas.{keeps_put}
 use Rattle.wiki_store.proofs.base.Base.put_back.Goals as goal
@@ -74,11 +76,15 @@ invariant_of-self c =
     } in
     let is = place-within inside (kept_interp c.self.inside.kept) c.args.self.now c.self.view_is c.self.inside.senses.items c.self.inside.kept
     c.self.invariant.0 c.as_slice.ensures.in_order c.args.kept.article c.place-place.result c.place-place.ensures in
-    let can : CanBePut inside c.args.kept = subst (λ (h : Holding). CanBePut h.state c.args.kept) (sym c.self.view_is) c.requires in
+    let can : CanBePut inside c.args.kept = subst (λ (h : Holding). CanBePut h.state c.args.kept) (sym c.self.view_is) c.requires.can in
+    let known : Knows (with_sentences inside c.args.kept.article c.args.kept.sentences) (kept_claims c.args.model) =
+    subst (λ (h : Holding). Knows (with_sentences h.state c.args.kept.article c.args.kept.sentences) (kept_claims c.args.model)) (sym c.self.view_is)
+    c.requires.known in
     let senses = set c.self.inside.senses.items c.place-place.result c.args.kept.senses in (
-      subst (λ (articles : List Article). IsKeeping (record inside { articles = articles }) senses c.args.kept.model) (sym c.exchange.ensures.articles)
+      subst (λ (kept : CheckedModel). IsKeeping (record inside { articles = c.exchange.new.self }) senses kept) (sym c.sharing.ensures)
+          (subst (λ (articles : List Article). IsKeeping (record inside { articles = articles }) senses c.args.model) (sym c.exchange.ensures.articles)
           (keeps_put inside c.self.inside.senses.items c.self.inside.kept c.self.invariant.0 c.as_slice.ensures.in_order c.args.kept can c.place-place.result
-          is),
+          is c.args.model known)),
       c.self.invariant.1,
     )
 

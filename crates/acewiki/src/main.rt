@@ -1,7 +1,8 @@
 //! AceWiki: a controlled-English wiki. `acewiki replay` answers one reply line to each request line of its input, and
 //! `acewiki serve ADDRESS` serves it to browsers; `acewiki make COUNT SEED` makes a
 //! generated one, and `acewiki help` tells the commands. `acewiki say` says all that a wiki knows, `acewiki export` writes it as an
-//! ontology, `acewiki check` tells whether an ontology has a finite model, and `acewiki why ARTICLE AT` tells why a sentence is not asserted.
+//! ontology, `acewiki check` tells whether an ontology has a finite model, `acewiki import` makes a wiki of one, and `acewiki why ARTICLE AT` tells
+//! why a sentence is not asserted.
 #![tactic(auto)]
 
 use command_line::{Outcome, ProcessLine};
@@ -27,7 +28,7 @@ fn main(rt: HostRuntime) -> ExitCode {
     let head = Duration::from_secs(HEAD_SECONDS);
     let request = Duration::from_secs(REQUEST_SECONDS);
     let Ok(mut link) = SocketLink::new(rt.alloc(), &rt, head, request) else {
-        return ExitCode::from(end(Outcome::Memory, &mut errors));
+        return ExitCode::from(end(Outcome::Memory, &[], &mut errors));
     };
     let status = program_over(
         rt.alloc(),

@@ -2,4 +2,6 @@
 #![tactic(auto)]
 
 #[cfg(test)]
+mod over_sockets;
+#[cfg(test)]
 mod tests;

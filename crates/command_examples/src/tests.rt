@@ -9,20 +9,20 @@ use std::test::Fail;
 use wiki_base::{Arg, Bytes, Memory};
 use wiki_io::{Event, Fails, MemoryLink, MemorySink, MemorySource};
 
-const INPUT: &[u8] = b"{\"do\":\"word\",\"kind\":\"name\",\"forms\":[\"Bern\"]}\n";
+pub(crate) const INPUT: &[u8] = b"{\"do\":\"word\",\"kind\":\"name\",\"forms\":[\"Bern\"]}\n";
 
-const REQUEST: &[u8] =
+pub(crate) const REQUEST: &[u8] =
     b"POST /api HTTP/1.1\r\nHost: x\r\nContent-Length: 47\r\n\r\n{\"do\":\"reword\",\"word\":\"Bern\",\"forms\":[\"Berne\"]}";
 
-const JOURNAL: &[u8] = b"{\"do\":\"reword\",\"forms\":[\"Berne\"],\"word\":\"Bern\"}\n";
+pub(crate) const JOURNAL: &[u8] = b"{\"do\":\"reword\",\"forms\":[\"Berne\"],\"word\":\"Bern\"}\n";
 
-const RESPONSE: &[u8] =
+pub(crate) const RESPONSE: &[u8] =
     b"HTTP/1.1 200 OK\r\nContent-Type: application/json\r\nContent-Length: 18\r\nConnection: close\r\n\r\n{\"done\":\"reword\"}\n";
 
 // A command line that tells its words.
 #[derive(Drop)]
-struct ToldLine {
-    words: Vec<Arg>,
+pub(crate) struct ToldLine {
+    pub(crate) words: Vec<Arg>,
 }
 
 impl CommandLine for ToldLine {
@@ -150,18 +150,35 @@ Declaration(NamedIndividual(:Bern))\nSubClassOf(:city ObjectComplementOf(:countr
 const FILE: &[u8] = b"Prefix(:=<http://example.org/>)\nOntology(<http://example.org/o>\n\
 DisjointClasses(:City :Country)\nClassAssertion(:City :Bern)\nClassAssertion(:Country :Bern)\n)\n";
 
+// The word of a command, a file, and what is written of it on both outputs.
+const OF_FILES: [(&str, &[u8], &str, &str); 4] = [
+    ("check", FILE, "inconsistent\n", ""),
+    ("check", b"Ontology(HasKey(", "Unsupported 9\n", ""),
+    (
+        "import",
+        FILE,
+        "{\"do\":\"word\",\"forms\":[\"City\",\"Cities\"],\"kind\":\"noun\"}\n\
+{\"do\":\"word\",\"forms\":[\"Country\",\"Countries\"],\"kind\":\"noun\"}\n\
+{\"do\":\"word\",\"forms\":[\"Bern\"],\"kind\":\"name\"}\n\
+{\"article\":\"City\",\"do\":\"add\",\"text\":\"Every City is not a Country.\"}\n\
+{\"article\":\"Bern\",\"do\":\"add\",\"text\":\"Bern is a City.\"}\n\
+{\"article\":\"Bern\",\"do\":\"add\",\"text\":\"Bern is a Country.\"}\n",
+        "",
+    ),
+    ("import", b"Ontology(HasKey(", "", "Unsupported 9\n"),
+];
+
 #[test]
-fn a_file_is_checked(rt: HostRuntime) -> Result<(), Fail> {
+fn a_file_is_checked_and_imported(rt: HostRuntime) -> Result<(), Fail> {
     let alloc = rt.alloc();
-    let mut words = Vec::new(alloc);
-    words.push(Arg::from_slice(alloc, b"check")?)?;
-    let line = ToldLine { words };
-    let left = left_by(alloc, &line, false, FILE)?;
-    assert_eq!(rt; left.status, 0);
-    assert_eq!(rt; left.output.as_slice(), b"inconsistent\n".as_slice());
-    let left = left_by(alloc, &line, false, b"Ontology(HasKey(")?;
-    assert_eq!(rt; left.status, 0);
-    assert_eq!(rt; left.output.as_slice(), b"Unsupported 9\n".as_slice());
+    for (word, file, output, errors) in OF_FILES.iter() {
+        let mut words = Vec::new(alloc);
+        words.push(Arg::from_slice(alloc, word.as_bytes())?)?;
+        let left = left_by(alloc, &ToldLine { words }, false, file)?;
+        assert_eq!(rt; left.status, 0);
+        assert_eq!(rt; left.output.as_slice(), output.as_bytes());
+        assert_eq!(rt; left.errors.as_slice(), errors.as_bytes());
+    }
     Ok(())
 }
 

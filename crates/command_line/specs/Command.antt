@@ -11,8 +11,8 @@ use Rattle.command_line.specs.declared.command.Outcome.{Outcome}
 use Rattle.command_line.specs.declared.command.Outcome.TheVariants.{Done, Usage, ReadFault, WriteFault, LinkFault, TooMuch, Memory}
 
 -- a command: `replay` with the budget of a search; `serve` with its address, the budget, and how many events it handles; `make` with how
--- many sentences, the seed of its draws, and the budget; `help`; `say`, `export` or `check` with the budget; or `why` with the form of an article's word, a
--- place there, the form of a name, if one is given, and the budget
+-- many sentences, the seed of its draws, and the budget; `help`; `say`, `export` or `check` with the budget; `import`; or `why` with the form of an
+-- article's word, a place there, the form of a name, if one is given, and the budget
 pub data Asked : Type 0 where
   replay : ℕ → Asked
   serve : List ℕ → ℕ → ℕ → Asked
@@ -21,6 +21,7 @@ pub data Asked : Type 0 where
   say : ℕ → Asked
   export : ℕ → Asked
   check : ℕ → Asked
+  import : Asked
   why : List ℕ → ℕ → Option (List ℕ) → ℕ → Asked
 
 -- a command of the program as what is asked
@@ -32,6 +33,7 @@ asked_by commands.Help = help
 asked_by (commands.Say budget) = say budget
 asked_by (commands.Export budget) = export budget
 asked_by (commands.Check budget) = check budget
+asked_by commands.Import = import
 asked_by (commands.Why article at name budget) = why article.now at (option_map (λ form. form.now) name) budget
 
 -- ---- options
@@ -146,6 +148,11 @@ export_with given = if has_budget_alone given then Some (export (budget_in given
 abbrev pub check_with : Given → Option Asked
 check_with given = if has_budget_alone given then Some (check (budget_in given)) else None
 
+-- `import` alone
+abbrev pub import_of : List (List ℕ) → Option Asked
+import_of [] = Some import
+import_of (word ∷ words) = None
+
 -- `why ARTICLE AT [--budget N] [--name NAME]`
 abbrev pub why_with : List ℕ → ℕ → Given → Option Asked
 why_with article at given = if is_some given.events then None else Some (why article at given.name (budget_in given))
@@ -173,13 +180,15 @@ command_of (name ∷ words) =
     if bytes_eq name (codes "say") then option_and_then say_with (options_after no_options words) else (
     if bytes_eq name (codes "export") then option_and_then export_with (options_after no_options words) else (
     if bytes_eq name (codes "check") then option_and_then check_with (options_after no_options words) else (
-    if bytes_eq name (codes "why") then why_of words else None)))))))
+    if bytes_eq name (codes "import") then import_of words else (
+    if bytes_eq name (codes "why") then why_of words else None))))))))
 
 -- what `help` writes: a line for each command
 unfoldable pub help_text : List ℕ
 help_text =
     codes "acewiki replay [--budget N]\nacewiki serve ADDRESS [--budget N] [--events N]\n" ++ (codes "acewiki make COUNT SEED [--budget N]\nacewiki help\n"
-    ++ codes "acewiki say [--budget N]\nacewiki export [--budget N]\nacewiki check [--budget N]\nacewiki why ARTICLE AT [--budget N] [--name NAME]\n")
+    ++ (codes "acewiki say [--budget N]\nacewiki export [--budget N]\nacewiki check [--budget N]\n"
+    ++ codes "acewiki import\nacewiki why ARTICLE AT [--budget N] [--name NAME]\n"))
 
 -- ---- the end
 

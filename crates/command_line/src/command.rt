@@ -1,6 +1,6 @@
 // The command line: which words are a command, and how the program ends.
 ghost use Rattle.std.specs.Prelude.{◌≡◌, None, Some, option_map, if◌then◌else◌};
-ghost use Rattle.command_line.specs.Command.{asked_by, command_of, given_by, has_budget_alone, replay_with, serve_of, serve_with, make_of, make_counted, make_seeded, make_with, help_of, say_with, export_with, check_with, why_of, why_about, why_at, why_with, is_address, begins_with_hyphen, status_of, words_of};
+ghost use Rattle.command_line.specs.Command.{asked_by, command_of, given_by, has_budget_alone, replay_with, serve_of, serve_with, make_of, make_counted, make_seeded, make_with, help_of, say_with, export_with, check_with, import_of, why_of, why_about, why_at, why_with, is_address, begins_with_hyphen, status_of, words_of};
 ghost use Rattle.command_line.specs.declared.command.Outcome.TheVariants.{Memory as out_of_memory};
 
 use crate::forms::form_of;
@@ -42,6 +42,8 @@ pub enum Command<'a> {
     Check {
         budget: u64,
     },
+    /// Reads the input as an ontology, and writes the requests that make a wiki of it.
+    Import,
     /// Steps through the lines of the input, and then tells why a sentence isn't asserted, or why a name answers a question.
     Why {
         article: &'a str,
@@ -77,6 +79,9 @@ impl Command<'_> {
         }
         if name.as_slice() == b"check".as_slice() {
             return check_with(Options::from_words(words)?);
+        }
+        if name.as_slice() == b"import".as_slice() {
+            return import_of(words);
         }
         if name.as_slice() == b"why".as_slice() {
             return why_of(words);
@@ -199,6 +204,15 @@ fn check_with<'a>(options: Options<'a>) -> Option<Command<'a>>
     Some(Command::Check {
         budget: options.budget.unwrap_or(DEFAULT_BUDGET),
     })
+}
+
+fn import_of(words: &[Arg]) -> Option<Command<'_>>
+    ensures { option_map asked_by result ≡ import_of words.now }
+{
+    match words {
+        [] => Some(Command::Import),
+        [..] => None,
+    }
 }
 
 fn why_of(words: &[Arg]) -> Option<Command<'_>>

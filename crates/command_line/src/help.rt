@@ -7,5 +7,5 @@ ghost use Rattle.command_line.specs.Command.{help_text};
 pub fn help_text() -> &'static str
     ensures { result.now ≡ help_text }
 {
-    "acewiki replay [--budget N]\nacewiki serve ADDRESS [--budget N] [--events N]\nacewiki make COUNT SEED [--budget N]\nacewiki help\nacewiki say [--budget N]\nacewiki export [--budget N]\nacewiki check [--budget N]\nacewiki why ARTICLE AT [--budget N] [--name NAME]\n"
+    "acewiki replay [--budget N]\nacewiki serve ADDRESS [--budget N] [--events N]\nacewiki make COUNT SEED [--budget N]\nacewiki help\nacewiki say [--budget N]\nacewiki export [--budget N]\nacewiki check [--budget N]\nacewiki import\nacewiki why ARTICLE AT [--budget N] [--name NAME]\n"
 }

@@ -11,7 +11,7 @@ use Rattle.commands.specs.Wiki.{Holding, Recalling}
 use Rattle.commands.proofs.ServeLemmas.{StepsInput-none}
 
 -- a text that was written is one of those that are asked for
-ends_so : {E : Type 0} (IsText : List ℕ → Type 0) (text : Result (List ℕ) E) (outcome : Outcome) (taken taken_after : Option (List ℕ)) → IfOk text IsText
+pub ends_so : {E : Type 0} (IsText : List ℕ → Type 0) (text : Result (List ℕ) E) (outcome : Outcome) (taken taken_after : Option (List ℕ)) → IfOk text IsText
     → EndsWriting text outcome taken taken_after → EndsRetelling IsText outcomes.Done outcome taken taken_after
 ends_so IsText (Ok text) outcomes.Done taken taken_after is ends = (text, is, ends)
 ends_so IsText (Ok text) outcomes.WriteFault taken taken_after is ends = (text, is, ends)

@@ -1,5 +1,5 @@
 -- What a command has done when it ends so, and why it ends.
-use Rattle.std.proofs.Common.{◌≡◌, ◌↔◌, ℕ, ◌<◌, ◌≤◌, List, length, Option, Some, None, refl, sym, ap, subst, ◌∙◌, arith}
+use Rattle.std.proofs.Common.{◌≡◌, ◌↔◌, ℕ, ◌<◌, ◌≤◌, List, [], length, Option, Some, None, refl, sym, ap, subst, ◌∙◌, arith}
 use Rattle.std.specs.Prelude.{option_map, IfSome}
 use Rattle.std.specs.Io.KnownBytes.{Consumes}
 use Rattle.std.proofs.lemmas.List.{length-append}
@@ -11,8 +11,8 @@ use Rattle.wiki_io.specs.Lines.{InputLine}
 use Rattle.command_line.specs.declared.command.Command.{Command}
 use Rattle.command_line.specs.declared.command.Outcome.{Outcome}
 use Rattle.command_line.specs.declared.command.Outcome.TheVariants as outcomes
-use Rattle.command_line.specs.Command.{Asked, replay, serve, make, help, say, export, check, why, asked_by, command_of}
-use Rattle.commands.specs.Theorem.{World, EndsReading, ReadsLines, EndsServing, EndsRetelling, MakesSummary, WritesHelp, IsSaid, IsFile, IsWhy, Does, most_input, IsWithin, HasCause, Performs}
+use Rattle.command_line.specs.Command.{Asked, replay, serve, make, help, say, export, check, import, why, asked_by, command_of}
+use Rattle.commands.specs.Theorem.{World, EndsReading, ReadsLines, EndsServing, EndsRetelling, MakesSummary, WritesHelp, IsSaid, IsFile, IsWhy, Does, MayRemark, most_input, IsWithin, HasCause, Performs}
 use Rattle.commands.specs.Wiki.{ace_wiki}
 
 -- ---- the command
@@ -63,25 +63,27 @@ no_retelling IsText outcomes.TooMuch taken taken_after ends = ends
 no_retelling IsText outcomes.Memory taken taken_after ends = ends
 
 -- no command that there is ends so
-not_usage : {S K L : Type 0} (command : Asked) (before after : World S K L) → Does (Some command) outcomes.Usage before after → ⊥
-not_usage (replay budget) before after does =
+not_usage : {S K L : Type 0} (command : Asked) (remarks : List ℕ) (before after : World S K L) → Does (Some command) outcomes.Usage remarks before after → ⊥
+not_usage (replay budget) remarks before after does =
     no_reading before.input.bytes outcomes.Usage after.input.bytes does.0.lines does.0.reads refl
-not_usage (serve address budget most) before after does = no_serving does.read_so address does.events most before after does.ends
-not_usage (make count seed budget) before after does = does.0
-not_usage help before after does = does.0
-not_usage (say budget) before after does =
+not_usage (serve address budget most) remarks before after does = no_serving does.read_so address does.events most before after does.ends
+not_usage (make count seed budget) remarks before after does = does.0
+not_usage help remarks before after does = does.0
+not_usage (say budget) remarks before after does =
     no_retelling (IsSaid does.0.last.wiki) does.0.read_so before.output.bytes after.output.bytes does.0.ends
-not_usage (export budget) before after does =
+not_usage (export budget) remarks before after does =
     no_retelling (IsFile does.0.last.wiki) does.0.read_so before.output.bytes after.output.bytes does.0.ends
-not_usage (check budget) before after does = does.0.ends
-not_usage (why article at name budget) before after does =
+not_usage (check budget) remarks before after does = does.0.ends
+not_usage import remarks before after does = does.0.ends
+not_usage (why article at name budget) remarks before after does =
     no_retelling (IsWhy budget article at name does.0.last.wiki) does.0.read_so before.output.bytes after.output.bytes does.0.ends
 
-usage_of : {S K L : Type 0} (command : Option Asked) (outcome : Outcome) (before after : World S K L) → Does command outcome before after
+usage_of : {S K L : Type 0} (command : Option Asked) (outcome : Outcome) (remarks : List ℕ) (before after : World S K L)
+    → Does command outcome remarks before after
     → (outcome ≡ outcomes.Usage) ↔ (command ≡ None)
-usage_of None outcome before after does = ((λ _. refl), λ _. does.0)
-usage_of (Some command) outcome before after does = (
-  (λ is. absurd (not_usage command before after (subst (λ (o : Outcome). Does (Some command) o before after) is does))),
+usage_of None outcome remarks before after does = ((λ _. refl), λ _. does.0)
+usage_of (Some command) outcome remarks before after does = (
+  (λ is. absurd (not_usage command remarks before after (subst (λ (o : Outcome). Does (Some command) o remarks before after) is does))),
   λ none. absurd (some_or_none none),
 )
   where
@@ -130,55 +132,84 @@ not_within_so : (left left_after : Option (List ℕ)) (read_so : Outcome) (lines
 not_within_so left left_after read_so lines reads is =
     not_within left left_after lines (subst (λ (o : Outcome). ReadsLines left o left_after lines) is reads)
 
-too_much_of : {S K L : Type 0} (command : Option Asked) (before after : World S K L) → Does command outcomes.TooMuch before after
+too_much_of : {S K L : Type 0} (command : Option Asked) (remarks : List ℕ) (before after : World S K L) → Does command outcomes.TooMuch remarks before after
     → ¬ IsWithin (most_input command) before.input.bytes
-too_much_of None before after does within = cc does.0
-too_much_of (Some (replay budget)) before after does within =
+too_much_of None remarks before after does within = cc does.0
+too_much_of (Some (replay budget)) remarks before after does within =
     not_within before.input.bytes after.input.bytes does.0.lines does.0.reads within
-too_much_of (Some (serve address budget most)) before after does within =
+too_much_of (Some (serve address budget most)) remarks before after does within =
     let reads : ReadsLines before.input.bytes outcomes.TooMuch after.input.bytes does.lines =
     subst (λ (o : Outcome). ReadsLines before.input.bytes o after.input.bytes does.lines)
     (serving_too_much does.read_so address does.events most before after does.ends) does.reads in
     not_within before.input.bytes after.input.bytes does.lines reads within
-too_much_of (Some (make count seed budget)) before after does within = absurd does.0
-too_much_of (Some help) before after does within = absurd does.0
-too_much_of (Some (say budget)) before after does within =
+too_much_of (Some (make count seed budget)) remarks before after does within = absurd does.0
+too_much_of (Some help) remarks before after does within = absurd does.0
+too_much_of (Some (say budget)) remarks before after does within =
     not_within_so before.input.bytes after.input.bytes does.0.read_so does.0.lines does.0.reads
     (retelling_too_much (IsSaid does.0.last.wiki) does.0.read_so before.output.bytes after.output.bytes does.0.ends) within
-too_much_of (Some (export budget)) before after does within =
+too_much_of (Some (export budget)) remarks before after does within =
     not_within_so before.input.bytes after.input.bytes does.0.read_so does.0.lines does.0.reads
     (retelling_too_much (IsFile does.0.last.wiki) does.0.read_so before.output.bytes after.output.bytes does.0.ends) within
-too_much_of (Some (check budget)) before after does within =
+too_much_of (Some (check budget)) remarks before after does within =
     not_above MOST_BYTES before.input.bytes after.input.bytes does.0.read does.0.source does.0.ends.0 within
-too_much_of (Some (why article at name budget)) before after does within =
+too_much_of (Some import) remarks before after does within =
+    not_above MOST_BYTES before.input.bytes after.input.bytes does.0.read does.0.source does.0.ends.0 within
+too_much_of (Some (why article at name budget)) remarks before after does within =
     not_within_so before.input.bytes after.input.bytes does.0.read_so does.0.lines does.0.reads
     (retelling_too_much (IsWhy budget article at name does.0.last.wiki) does.0.read_so before.output.bytes after.output.bytes does.0.ends) within
 
-cause_of : {S K L : Type 0} (command : Option Asked) (outcome : Outcome) (before after : World S K L) → Does command outcome before after
+cause_of : {S K L : Type 0} (command : Option Asked) (outcome : Outcome) (remarks : List ℕ) (before after : World S K L)
+    → Does command outcome remarks before after
     → (outcome ≡ outcomes.ReadFault → Rose before.input.faults after.input.faults)
     → (outcome ≡ outcomes.WriteFault → Rose before.output.faults after.output.faults)
     → (outcome ≡ outcomes.LinkFault → Rose before.link.faults after.link.faults) → HasCause command outcome before after
-cause_of command outcomes.Done before after does read write link = tt
-cause_of command outcomes.Usage before after does read write link = tt
-cause_of command outcomes.ReadFault before after does read write link = read refl
-cause_of command outcomes.WriteFault before after does read write link = write refl
-cause_of command outcomes.LinkFault before after does read write link = link refl
-cause_of command outcomes.TooMuch before after does read write link = too_much_of command before after does
-cause_of command outcomes.Memory before after does read write link = tt
+cause_of command outcomes.Done remarks before after does read write link = tt
+cause_of command outcomes.Usage remarks before after does read write link = tt
+cause_of command outcomes.ReadFault remarks before after does read write link = read refl
+cause_of command outcomes.WriteFault remarks before after does read write link = write refl
+cause_of command outcomes.LinkFault remarks before after does read write link = link refl
+cause_of command outcomes.TooMuch remarks before after does read write link = too_much_of command remarks before after does
+cause_of command outcomes.Memory remarks before after does read write link = tt
+
+-- each command may have no remarks
+may_be_quiet : (command : Option Asked) → MayRemark command []
+may_be_quiet None = refl
+may_be_quiet (Some (replay budget)) = refl
+may_be_quiet (Some (serve address budget most)) = refl
+may_be_quiet (Some (make count seed budget)) = refl
+may_be_quiet (Some help) = refl
+may_be_quiet (Some (say budget)) = refl
+may_be_quiet (Some (export budget)) = refl
+may_be_quiet (Some (check budget)) = refl
+may_be_quiet (Some import) = tt
+may_be_quiet (Some (why article at name budget)) = refl
 
 -- what was done for the command that the words are
-pub performed : {S K L : Type 0} (words : List (List ℕ)) (command : Option Asked) (outcome : Outcome) (before after : World S K L)
-    → command ≡ command_of words → Does command outcome before after
+pub performed : {S K L : Type 0} (words : List (List ℕ)) (command : Option Asked) (outcome : Outcome) (remarks : List ℕ) (before after : World S K L)
+    → command ≡ command_of words → Does command outcome remarks before after → MayRemark command remarks
     → (outcome ≡ outcomes.ReadFault → Rose before.input.faults after.input.faults)
     → (outcome ≡ outcomes.WriteFault → Rose before.output.faults after.output.faults)
-    → (outcome ≡ outcomes.LinkFault → Rose before.link.faults after.link.faults) → Performs words outcome before after
-performed words command outcome before after is does read write link =
-    let asked_for : Does (command_of words) outcome before after = subst (λ (c : Option Asked). Does c outcome before after) is does in
+    → (outcome ≡ outcomes.LinkFault → Rose before.link.faults after.link.faults) → Performs words outcome remarks before after
+performed words command outcome remarks before after is does may read write link =
+    let asked_for : Does (command_of words) outcome remarks before after = subst (λ (c : Option Asked). Does c outcome remarks before after) is does in
     record {
-      usage = usage_of (command_of words) outcome before after asked_for;
+      usage = usage_of (command_of words) outcome remarks before after asked_for;
       does = asked_for;
-      cause = cause_of (command_of words) outcome before after asked_for read write link;
+      remarks_are = subst (λ (c : Option Asked). MayRemark c remarks) is may;
+      cause = cause_of (command_of words) outcome remarks before after asked_for read write link;
     }
+
+-- what was done for the command that the words are, where nothing is remarked
+pub performed_quietly : {S K L : Type 0} (words : List (List ℕ)) (command : Option Asked) (outcome ended : Outcome) (remarks : List ℕ)
+    (before after : World S K L) → ended ≡ outcome → remarks ≡ [] → command ≡ command_of words → Does command outcome [] before after
+    → (outcome ≡ outcomes.ReadFault → Rose before.input.faults after.input.faults)
+    → (outcome ≡ outcomes.WriteFault → Rose before.output.faults after.output.faults)
+    → (outcome ≡ outcomes.LinkFault → Rose before.link.faults after.link.faults) → Performs words ended remarks before after
+performed_quietly words command outcome ended remarks before after ends quiet is does read write link =
+    let without : Performs words outcome [] before after =
+    performed words command outcome [] before after is does (may_be_quiet command) read write link in
+    let at_end : Performs words ended [] before after = subst (λ (o : Outcome). Performs words o [] before after) (sym ends) without in
+    subst (λ (r : List ℕ). Performs words ended r before after) (sym quiet) at_end
 
 -- ---- ends that a command hasn't
 

@@ -20,12 +20,16 @@ use Rattle.making.specs.Making.{Makes}
 use Rattle.turning.specs.Laws.{IsRun, TokensAreOwn, UndoGivesBack, RedoGivesBack}
 use Rattle.command_line.specs.declared.command.Outcome.{Outcome}
 use Rattle.command_line.specs.declared.command.Outcome.TheVariants.{Done, Usage, ReadFault, WriteFault, LinkFault, TooMuch, Memory}
+use Rattle.owl_reader.specs.declared.faults.OwlFault.{OwlFault}
+use Rattle.owl_reader.specs.declared.faults.OwlFault.TheVariants as fault
+use Rattle.owl_grammar.specs.Faults.{IsFault}
 use Rattle.owl_intake.specs.declared.input.TheConstants.{MOST_BYTES}
-use Rattle.owl_intake.specs.Checked.{TellsCheck}
+use Rattle.owl_intake.specs.Checked.{TellsCheck, fault_line}
+use Rattle.owl_import.specs.Imported.{Imports}
 use Rattle.retelling.specs.Files.{TellsFile}
 use Rattle.retelling.specs.Saying.{SaysAll}
 use Rattle.retelling.specs.Why.{TellsWhy}
-use Rattle.command_line.specs.Command.{Asked, replay, serve, make, help, say, export, check, why, command_of, status_of, words_of, help_text}
+use Rattle.command_line.specs.Command.{Asked, replay, serve, make, help, say, export, check, import, why, command_of, status_of, words_of, help_text}
 use Rattle.commands.specs.Completeness.{DoesWhatIsFree}
 use Rattle.commands.specs.Standing.{StandsAsRead, WritesShortLines}
 use Rattle.commands.specs.Lines.{asked, StepsLines, reply_lines}
@@ -266,38 +270,52 @@ EndsOnFile IsText TooMuch read left taken taken_after = (MOST_BYTES < length rea
 EndsOnFile IsText Memory read left taken taken_after = (length read ≤ MOST_BYTES) × Appends taken taken_after []
 EndsOnFile IsText outcome read left taken taken_after = ⊥
 
--- `check`: bytes of the input were read as a file, and a text about it was written
+-- `check` and `import`: bytes of the input were read as a file, and a text about it was written
 pub record TellsOfFile (IsText : List ℕ → List ℕ → Type 0) (left taken : Option (List ℕ)) (outcome : Outcome)
     (left_after taken_after : Option (List ℕ)) : Type 0 where
   pub read : List ℕ
   pub source : Consumes left left_after read
   pub ends : EndsOnFile IsText outcome read left_after taken taken_after
 
+-- What is told of a text that is to become a wiki. Of a file, by the grammar of files, the requests that make a wiki of it are written, and a
+-- line for each axiom that is left out is remarked; else nothing is written, and the fault of its first token that has one is remarked.
+abbrev pub TellsImport : List ℕ → List ℕ → List ℕ → Type 0
+TellsImport remarks text requests =
+    Imports text requests remarks ⊎ ((f : OwlFault) × (f ≢ fault.Memory) × IsFault text f × (requests ≡ []) × (remarks ≡ fault_line f))
+
 -- ---- the program
 
--- what was done for a command up to an outcome; where the words are none, nothing was read, written or sent
-abbrev pub Does : {S K L : Type 0} → Option Asked → Outcome → World S K L → World S K L → Type 0
-Does None outcome before after = (outcome ≡ Usage) × (after ≡ before)
-Does (Some (replay budget)) outcome before after =
+-- what was done for a command up to an outcome, with these remarks; where the words are none, nothing was read, written or sent
+abbrev pub Does : {S K L : Type 0} → Option Asked → Outcome → List ℕ → World S K L → World S K L → Type 0
+Does None outcome remarks before after = (outcome ≡ Usage) × (after ≡ before)
+Does (Some (replay budget)) outcome remarks before after =
     Replays (new_wiki budget) before.input.bytes before.output.bytes outcome after.input.bytes after.output.bytes × (after.link ≡ before.link)
-Does (Some (serve address budget most)) outcome before after = Serves (new_wiki budget) address most outcome before after
-Does (Some (make count seed budget)) outcome before after =
+Does (Some (serve address budget most)) outcome remarks before after = Serves (new_wiki budget) address most outcome before after
+Does (Some (make count seed budget)) outcome remarks before after =
     MakesSummary (ace_wiki budget) count seed before.output.bytes outcome after.output.bytes × (after.input ≡ before.input) × (after.link ≡ before.link)
-Does (Some help) outcome before after =
+Does (Some help) outcome remarks before after =
     WritesHelp outcome before.output.bytes after.output.bytes × (after.input ≡ before.input) × (after.link ≡ before.link)
-Does (Some (say budget)) outcome before after =
+Does (Some (say budget)) outcome remarks before after =
     Retells IsSaid (new_wiki budget) before.input.bytes before.output.bytes outcome after.input.bytes after.output.bytes × (after.link ≡ before.link)
-Does (Some (export budget)) outcome before after =
+Does (Some (export budget)) outcome remarks before after =
     Retells IsFile (new_wiki budget) before.input.bytes before.output.bytes outcome after.input.bytes after.output.bytes × (after.link ≡ before.link)
-Does (Some (check budget)) outcome before after =
+Does (Some (check budget)) outcome remarks before after =
     TellsOfFile (TellsCheck budget) before.input.bytes before.output.bytes outcome after.input.bytes after.output.bytes × (after.link ≡ before.link)
-Does (Some (why article at name budget)) outcome before after =
+Does (Some import) outcome remarks before after =
+    TellsOfFile (TellsImport remarks) before.input.bytes before.output.bytes outcome after.input.bytes after.output.bytes × (after.link ≡ before.link)
+Does (Some (why article at name budget)) outcome remarks before after =
     Retells (IsWhy budget article at name) (new_wiki budget) before.input.bytes before.output.bytes outcome after.input.bytes after.output.bytes
     × (after.link ≡ before.link)
+
+-- what a command remarks: only `import` does
+abbrev pub MayRemark : Option Asked → List ℕ → Type 0
+MayRemark (Some import) remarks = ⊤
+MayRemark other remarks = remarks ≡ []
 
 -- the most bytes that the input of a command may have
 abbrev pub most_input : Option Asked → ℕ
 most_input (Some (check budget)) = MOST_BYTES
+most_input (Some import) = MOST_BYTES
 most_input other = MAX_INPUT
 
 -- the source told no more than so many bytes
@@ -313,11 +331,17 @@ HasCause command LinkFault before after = Rose before.link.faults after.link.fau
 HasCause command TooMuch before after = ¬ IsWithin (most_input command) before.input.bytes
 HasCause command outcome before after = ⊤
 
--- the command that the words are was carried out up to this outcome, which is `Usage` exactly where they are none
-pub record Performs {S K L : Type 0} (words : List (List ℕ)) (outcome : Outcome) (before after : World S K L) : Type 0 where
+-- the command that the words are was carried out up to this outcome, which is `Usage` exactly where they are none, with these remarks
+pub record Performs {S K L : Type 0} (words : List (List ℕ)) (outcome : Outcome) (remarks : List ℕ) (before after : World S K L) : Type 0 where
   pub usage : (outcome ≡ Usage) ↔ (command_of words ≡ None)
-  pub does : Does (command_of words) outcome before after
+  pub does : Does (command_of words) outcome remarks before after
+  pub remarks_are : MayRemark (command_of words) remarks
   pub cause : HasCause (command_of words) outcome before after
+
+-- what standard error is told: the remarks where all was done, and else why it ended
+abbrev pub told_at_end : Outcome → List ℕ → List ℕ
+told_at_end Done remarks = remarks
+told_at_end outcome remarks = words_of outcome
 
 -- a message was written whole, or a front part of it where the sink's faults rose
 abbrev pub Tells : {E : Type 0} → List ℕ → Stream E → Stream E → Type 0
@@ -336,13 +360,14 @@ pub record HoldsOfRuns : Type 0 where
   pub redo : RedoGivesBack
 
 -- The program ran with these words: their command was carried out up to an outcome, whose status it has, and whose words were written to
--- standard error.
+-- standard error, or where all was done the remarks.
 pub record Runs {S K E L : Type 0} (words : List (List ℕ)) (status : ℕ) (before : World S K L) (errors : Stream E) (after : World S K L)
     (errors_after : Stream E) : Type 0 where
   pub outcome : Outcome
-  pub performs : Performs words outcome before after
+  pub remarks : List ℕ
+  pub performs : Performs words outcome remarks before after
   pub status_is : status ≡ status_of outcome
-  pub told : Tells (words_of outcome) errors errors_after
+  pub told : Tells (told_at_end outcome remarks) errors errors_after
   pub of_runs : HoldsOfRuns
 
 -- The program ran with the words of a command line, where this tells them; or there was no memory for the words, and then nothing but

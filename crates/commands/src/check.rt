@@ -32,8 +32,8 @@ pub fn check<S: Source, K: Sink>(
     }
 }
 
-// How the program ends where the input was not read to its end.
-fn cut_outcome(cut: CutShort) -> Outcome
+/// How the program ends where the input was not read to its end.
+pub fn cut_outcome(cut: CutShort) -> Outcome
     ensures { result ≡ cut_outcome cut }
 {
     match cut {

@@ -3,6 +3,7 @@
 
 mod check;
 mod help;
+mod import;
 mod lines;
 mod make;
 mod over_sockets;

@@ -1,0 +1,4 @@
+pub mod AttemptLemmas
+pub mod BaseLemmas
+pub mod KnownLemmas
+pub mod NotingLemmas

@@ -1,0 +1,8 @@
+use Rattle.std.proofs.Common.{◌≡◌, take}
+use Rattle.std.specs.Str.{encode_utf8_all}
+use Rattle.std.specs.String.{string_bytes}
+use Rattle.owl_words.proofs.bases.spelled.Given as goal
+
+-- the characters so far are spelled
+abbrev pub invariant-loop-c : goal.invariant-loop-c
+invariant-loop-c l = string_bytes l.text ≡ encode_utf8_all (take l.c-index l.cs)

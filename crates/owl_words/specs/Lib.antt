@@ -1,0 +1,4 @@
+pub mod Bases
+pub mod Attempts
+pub mod Chosen
+pub mod Known

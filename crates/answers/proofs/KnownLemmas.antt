@@ -1,7 +1,8 @@
 -- Knowledge with the denial of a name: what absorption makes of the axioms with it.
 use Rattle.std.proofs.Common.{◌≡◌, ℕ, ◌&&◌, true, false, List, [], ◌∷◌, ◌++◌, All, Contains, sym, ap, ◌∙◌, subst, inl, inr}
+use Rattle.std.specs.Prelude.{Option, Some, None, Bool, IfSome, IfNone, IsTrue}
 use Rattle.std.specs.List.{list_all}
-use Rattle.std.proofs.lemmas.Bool.{cases_Bool, not_from_false, and_parts}
+use Rattle.std.proofs.lemmas.Bool.{cases_Bool, false≢true, not_from_false, and_parts}
 use Rattle.std.proofs.lemmas.List.Concat.{flat_map-append}
 use Rattle.std.proofs.lemmas.List.Sums.{fold-append}
 use Rattle.wiki_base.specs.declared.numbers.WordId.{WordId}
@@ -23,6 +24,8 @@ use Rattle.absorb.specs.Sorted.{with_piece, no_pieces, sorted}
 use Rattle.absorb.proofs.AbsorbedLemmas.{lawful, plain_theory, model_of, model_from}
 use Rattle.closure_check.specs.NoModel.{HasNoModel}
 use Rattle.consequences.specs.Forced.{HasInEachModel}
+use Rattle.owl_eval.specs.Checked.{kept_claims}
+use Rattle.owl_eval.specs.declared.checked.CheckedModel.{CheckedModel}
 use Rattle.tableau_rules.specs.Searching.{IsLonger}
 use Rattle.answers.specs.Answered.{denied, IsInAll, IsOutsideSome, IsUnknown}
 use Rattle.answers.specs.Asserted.{with_assertion}
@@ -123,3 +126,10 @@ pub outside_here : (i : Interpretation) (claims : List Claim) (c d : Concept) (n
     → holds i (ClassAssertion d name) ≡ true → IsOutsideSome claims c name
 outside_here i claims c d name is sound m h =
     (i, sound, m, complement_outside i c (element_of i name) (subst (λ e. is_in i e (element_of i name) ≡ true) is h))
+
+-- what another model of the same axioms has outside is outside in some model
+pub outside_other : (other : Option CheckedModel) (claims : List Claim) (c : Concept) (name : WordId) (found : Bool)
+    → IfSome other (λ m. kept_claims m ≡ claims) → IfSome other (λ m. IsTrue found → IsOutsideSome (kept_claims m) c name)
+    → IfNone other (found ≡ false) → IsTrue found → IsOutsideSome claims c name
+outside_other (Some m) claims c name found is out none t = subst (λ cs. IsOutsideSome cs c name) is (out t)
+outside_other None claims c name found is out none t = absurd (false≢true (sym none ∙ t))

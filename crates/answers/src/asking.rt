@@ -1,5 +1,5 @@
 // Answers to the question which names are in a class.
-ghost use Rattle.std.specs.Prelude.{◌≡◌, ◌∷◌, [], ◌++◌, ◌&&◌, true, All, Contains, IfOk, IsTrue};
+ghost use Rattle.std.specs.Prelude.{◌≡◌, ◌∷◌, [], ◌++◌, ◌&&◌, true, All, Contains, IfNone, IfOk, IfSome, IsTrue, false};
 ghost use Rattle.std.specs.List.{list_all};
 ghost use Rattle.logic_terms.specs.Shown.{concept_of};
 ghost use Rattle.logic_terms.specs.Interpretation.{Interpretation, element_of};
@@ -16,6 +16,7 @@ ghost use Rattle.answers.specs.Answered.{IsInAll, IsOutsideSome, IsUnknown};
 ghost use Rattle.answers.specs.Single.{Answered};
 
 use crate::asserting::asserting;
+use crate::denying::other_model;
 use absorb::absorb;
 use consequences::Consequences;
 use logic_terms::{Axiom, Class, Names, negated};
@@ -34,8 +35,9 @@ pub struct Answers {
 }
 
 /// The given names that are in a class in every finite model of the kept axioms. A name that is outside the class in the
-/// kept interpretation is no answer, and one that a branch of single choices shows to be in it is one; for each other name the
-/// verdict on the axioms with its membership in the complement decides, within `budget` rule applications.
+/// kept interpretation is no answer, and one that a branch of single choices shows to be in it is one. From a budget of 100,000
+/// on a model is looked for that has all others outside at once; for each that is inside there too, the verdict on the axioms
+/// with its membership in the complement decides, within `budget` rule applications.
 pub fn ask(
     alloc: Global,
     class: &Class,
@@ -107,10 +109,41 @@ fn all_decided(
     ensures given { IfOk result (λ a. All (Contains names.now) a.yes × All (Contains names.now) a.unknown) }
     ensures apart { IfOk result (λ a. (n : WordId) → Contains a.yes n → ¬ Contains a.unknown n) }
 {
+    let other = other_model(alloc, known, class, denial, kept, names, budget)?;
+    each_decided(alloc, known, class, denial, kept, &other, names, budget)
+}
+
+// The same where another model of the axioms was looked for.
+fn each_decided(
+    alloc: Global,
+    known: &Consequences,
+    class: &Class,
+    denial: &Class,
+    kept: &CheckedModel,
+    other: &Option<CheckedModel>,
+    names: &Names,
+    budget: u64,
+) -> Result<Answers, Memory>
+    requires denial { concept_of denial.now ≡ complement (concept_of class.now) }
+    requires other { IfSome other.now (λ m. kept_claims m ≡ kept_claims kept.now) }
+    requires absorbed { IsAbsorbed (kept_claims kept.now) names.now (theory_in known.now) }
+    requires over { IsTrue (are_over names.now (kept_claims kept.now) && list_all (is_among names.now) (names_in (concept_of class.now))) }
+    requires plain { IsTrue (are_plain (kept_claims kept.now) && is_plain (concept_of class.now)) }
+    ensures yes { IfOk result (λ a. All (IsInAll (kept_claims kept.now) (concept_of class.now)) a.yes) }
+    ensures unknown { IfOk result (λ a. All (IsUnknown (kept_claims kept.now) names.now budget (concept_of class.now)) a.unknown) }
+    ensures kept_has_unknown { IfOk result
+        (λ a. All (λ n. IsIn (kept_interp kept.now) (concept_of class.now) (element_of (kept_interp kept.now) n)) a.unknown) }
+    ensures others { IfOk result (λ a. (n : WordId) → Contains names.now n → ¬ Contains a.yes n → ¬ Contains a.unknown n
+        → IsOutsideSome (kept_claims kept.now) (concept_of class.now) n) }
+    ensures given { IfOk result (λ a. All (Contains names.now) a.yes × All (Contains names.now) a.unknown) }
+    ensures apart { IfOk result (λ a. (n : WordId) → Contains a.yes n → ¬ Contains a.unknown n) }
+{
     let mut yes = Names::new(alloc);
     let mut unknown = Names::new(alloc);
     for name in names.as_slice() {
-        match decided(alloc, known, class, denial, kept, names, *name, budget)? {
+        match decided(
+            alloc, known, class, denial, kept, other, names, *name, budget,
+        )? {
             Asked::Yes => yes.push(*name)?,
             Asked::Unknown => unknown.push(*name)?,
             Asked::No => {}
@@ -134,10 +167,12 @@ fn decided(
     class: &Class,
     denial: &Class,
     kept: &CheckedModel,
+    other: &Option<CheckedModel>,
     names: &Names,
     name: WordId,
     budget: u64,
 ) -> Result<Asked, Memory>
+    requires other { IfSome other.now (λ m. kept_claims m ≡ kept_claims kept.now) }
     requires absorbed { IsAbsorbed (kept_claims kept.now) names.now (theory_in known.now) }
     requires denial { concept_of denial.now ≡ complement (concept_of class.now) }
     requires over { IsTrue (are_over names.now (kept_claims kept.now) && list_all (is_among names.now) (names_in (concept_of class.now))) }
@@ -153,6 +188,10 @@ fn decided(
     if known.include(class, name) {
         return Ok(Asked::Yes);
     }
+    let is_out_there = is_outside_other(alloc, other, class, denial, name)?;
+    if is_out_there {
+        return Ok(Asked::No);
+    }
     let with_denial = asserting(alloc, known.knowledge(), name, denial)?;
     match decide(alloc, &with_denial, budget)? {
         Decision::Model(_) => Ok(Asked::No),
@@ -161,8 +200,26 @@ fn decided(
     }
 }
 
+// Whether another model of the same axioms, where there is one, has a name outside the class.
+fn is_outside_other(
+    alloc: Global,
+    other: &Option<CheckedModel>,
+    class: &Class,
+    denial: &Class,
+    name: WordId,
+) -> Result<bool, Memory>
+    requires { concept_of denial.now ≡ complement (concept_of class.now) }
+    ensures some { IfSome other.now (λ m. IfOk result (λ yes. IsTrue yes → IsOutsideSome (kept_claims m) (concept_of class.now) name)) }
+    ensures none { IfNone other.now (IfOk result (λ yes. yes ≡ false)) }
+{
+    match other {
+        Some(model) => is_outside(alloc, model, class, denial, name),
+        None => Ok(false),
+    }
+}
+
 // Whether the kept interpretation has a name outside the class, of which the denial is the complement.
-fn is_outside(
+pub(crate) fn is_outside(
     alloc: Global,
     kept: &CheckedModel,
     class: &Class,

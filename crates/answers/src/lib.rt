@@ -3,5 +3,6 @@
 
 mod asking;
 mod asserting;
+mod denying;
 
 pub use asking::{Answers, ask, ask_known};

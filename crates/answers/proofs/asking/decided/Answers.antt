@@ -12,7 +12,7 @@ use Rattle.tableau_rules.specs.Shown.{graph_of}
 use Rattle.reasoner.specs.Decisions.{IfModel, IfTree, IfUndecided}
 use Rattle.consequences.specs.Known.{theory_in}
 use Rattle.answers.specs.Asserted.{with_assertion}
-use Rattle.answers.proofs.KnownLemmas.{included, denying_lawful, denying_plain, denying_model, denying_none, denying_longer}
+use Rattle.answers.proofs.KnownLemmas.{included, outside_other, denying_lawful, denying_plain, denying_model, denying_none, denying_longer}
 use Rattle.answers.proofs.asking.decided.Goals as goal
 
 pub returns-then-is_out : goal.returns-then-is_out
@@ -22,6 +22,11 @@ pub returns-then-include : goal.returns-then-include
 returns-then-include c =
     included (kept_claims c.args.kept.now) c.args.names.now (theory_in c.args.known.now) (concept_of c.args.class.now) c.args.name c.requires.absorbed
     c.requires.over (c.include.ensures c.if-include.true)
+
+pub returns-then-is_out_there : goal.returns-then-is_out_there
+returns-then-is_out_there c =
+    outside_other c.args.other.now (kept_claims c.args.kept.now) (concept_of c.args.class.now) c.args.name c.in_ok-is_out_there.is_out_there c.requires.other
+    c.in_ok-is_out_there.ensures.some c.in_ok-is_out_there.ensures.none c.if-is_out_there.true
 
 pub decide-requires-clause-lawful : goal.decide-requires-clause-lawful
 decide-requires-clause-lawful c =

@@ -1,4 +1,4 @@
-use Rattle.std.proofs.Common.{◌≡◌, ◌+◌, ◌<◌, ◌≤◌, [], ◌∷◌, ◌++◌, get_or, take, sym, ap, ◌∙◌, subst}
+use Rattle.std.proofs.Common.{◌≡◌, ◌+◌, [], ◌∷◌, ◌++◌, get_or, take, sym, ap, ◌∙◌, subst}
 use Rattle.std.proofs.lemmas.List.{take_more}
 use Rattle.logic_terms.specs.Names.{names_rise}
 use Rattle.logic_terms.specs.Shown.{concept_of}
@@ -6,8 +6,8 @@ use Rattle.absorb.specs.Mentioned.{is_among}
 use Rattle.owl_eval.specs.Checked.{kept_interp, kept_claims}
 use Rattle.answers.specs.Single.{Answered}
 use Rattle.answers.proofs.AskedLemmas.{among_at, all_below, not_before, asked_as, asked_all, one_yes, one_unknown, one_no}
-use Rattle.answers.proofs.asking.all_decided.Goals as goal
-use Rattle.answers.proofs.asking.all_decided.Goals.{in-Yes+in_ok-push-in-Yes, in-Unknown+in_ok-push-in-Unknown, in-No}
+use Rattle.answers.proofs.asking.each_decided.Goals as goal
+use Rattle.answers.proofs.asking.each_decided.Goals.{in-Yes+in_ok-push-in-Yes, in-Unknown+in_ok-push-in-Unknown, in-No}
 
 pub decided-requires-clause-given : goal.decided-requires-clause-given
 decided-requires-clause-given c =

@@ -12,6 +12,9 @@ use wiki_base::WordId;
 
 const ENOUGH: u64 = 1000;
 
+// From this budget on one model is looked for that has all names outside.
+const ALL_AT_ONCE: u64 = 100_000;
+
 // A checked model of the axioms, that of their search unless the bare interpretation is one.
 fn model_of(alloc: Global, names: &Names, text: &str) -> Result<CheckedModel, Fail> {
     let bare = Interp::new(alloc, 1, Vec::new(alloc), Vec::new(alloc), Vec::new(alloc))?;
@@ -54,6 +57,8 @@ fn each_question_has_its_answers(rt: HostRuntime) -> Result<(), Fail> {
         let told = asked(alloc, &question, &kept, &names, *most)?;
         assert!(rt; are(&told.yes, yes, ""), "{axioms} {class}");
         assert!(rt; told.unknown.is_empty(), "{axioms} {class}");
+        let at_once = asked(alloc, &question, &kept, &names, ALL_AT_ONCE)?;
+        assert!(rt; are(&at_once.yes, yes, ""), "{axioms} {class}");
         if *most > 0 {
             let cut = asked(alloc, &question, &kept, &names, *most - 1)?;
             assert!(rt; are(&cut.unknown, unknown, ""), "{axioms} {class}");

@@ -37,7 +37,7 @@ fn all_true(interp: &Interp, axioms: &Axioms) -> bool
     true
 }
 
-fn is_true(interp: &Interp, stated: &Axiom) -> bool
+pub(crate) fn is_true(interp: &Interp, stated: &Axiom) -> bool
     ensures { result ≡ holds interp.now (claim_of stated.now) }
 {
     match stated {

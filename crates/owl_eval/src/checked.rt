@@ -56,6 +56,14 @@ impl CheckedModel {
         }
     }
 
+    /// Whether its interpretation is a model of other axioms. Of these only those are looked at that don't stand at the same place
+    /// in both, counted from the front or from the back. It takes no memory.
+    pub fn is_model_of(&self, axioms: &Axioms) -> bool
+        ensures { IsTrue result ↔ IsModel (kept_interp self.now) (claims_of axioms.now) }
+    {
+        all_true_beside(&self.interp, axioms, &self.axioms, &[])
+    }
+
     // Whether axioms are true in an interpretation, by what is known of this model.
     fn are_true_in(&self, interp: &Interp, axioms: &Axioms) -> bool
         ensures exact { result ≡ all_hold interp.now (claims_of axioms.now) }

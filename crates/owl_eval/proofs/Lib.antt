@@ -1,5 +1,7 @@
 pub mod Arranged
 pub mod Assignments
+pub mod Changed
+pub mod Coincidence
 pub mod Filters
 pub mod Growing
 pub mod Halving
@@ -7,6 +9,7 @@ pub mod Leading
 pub mod Lookups
 pub mod Members
 pub mod Runs
+pub mod SameClaims
 pub mod Spanning
 pub mod Successors
 pub mod Walking

@@ -32,7 +32,7 @@ module _ {V : Type 0} where
   adjacent (e ∷ es) rise (suc k) d lt = adjacent es (rise_above e.0 es rise) k d (omega arith)
 
   -- the word at a place is the only one of its kind
-  at_place : (es : List (WordId × V)) → words_rise es ≡ true → (word : WordId) (k : ℕ) (d : WordId × V) → k < length es → (get_or es k d).0.0 ≡ word.0
+  pub at_place : (es : List (WordId × V)) → words_rise es ≡ true → (word : WordId) (k : ℕ) (d : WordId × V) → k < length es → (get_or es k d).0.0 ≡ word.0
       → lookup (is_word word) es ≡ Some (get_or es k d).1
   at_place [] rise word k d lt same = absurd (omega arith)
   at_place (e ∷ es) rise word zero d lt same =

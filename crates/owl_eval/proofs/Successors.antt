@@ -9,7 +9,7 @@ use Rattle.std.proofs.lemmas.List.Folds.{list_all-map}
 use Rattle.wiki_base.proofs.BoolLaws.{or-turn as swap_or, and-not}
 use Rattle.wiki_base.specs.declared.numbers.WordId.{WordId}
 use Rattle.logic_terms.specs.declared.expressions.Role.{Role}
-use Rattle.logic_terms.specs.Interpretation.{Interpretation, is_interpretation, is_word, words_rise, pairs_of, relates}
+use Rattle.logic_terms.specs.Interpretation.{Interpretation, is_interpretation, is_word, words_rise, elements_of, pairs_of, has_element, relates}
 use Rattle.logic_terms.specs.Meaning.{implies, some_below, each_below}
 use Rattle.owl_eval.specs.Pairs.{swapped, pairs_along}
 use Rattle.owl_eval.proofs.Filters.{list_all-not}
@@ -119,17 +119,17 @@ pub paired_along : (i : Interpretation) (role : Role) (x y : ℕ) → paired (pa
 paired_along i role x y = along_by role.inverted (pairs_of i role.id) x y
 
 -- what holds of each list of a map holds of the one that is looked up, or of none
-fit_either : (n : ℕ) (b : Bool) (ps : List (ℕ × ℕ)) (other : Option (List (ℕ × ℕ))) → ends_fit n ps ≡ true → ends_fit n (unwrap_or other []) ≡ true
-    → ends_fit n (unwrap_or (cond b (Some ps) other) []) ≡ true
-fit_either n true ps other here there = here
-fit_either n false ps other here there = there
+module _ {X : Type 0} (fits : List X → Bool) (none : fits [] ≡ true) where
+  fit_either : (b : Bool) (xs : List X) (other : Option (List X)) → fits xs ≡ true → fits (unwrap_or other []) ≡ true
+      → fits (unwrap_or (cond b (Some xs) other) []) ≡ true
+  fit_either true xs other here there = here
+  fit_either false xs other here there = there
 
-fit_lookup : (n : ℕ) (test : WordId → Bool) (es : List (WordId × List (ℕ × ℕ))) → list_all (λ e. ends_fit n e.1) es ≡ true
-    → ends_fit n (unwrap_or (lookup test es) []) ≡ true
-fit_lookup n test [] fit = refl
-fit_lookup n test (e ∷ es) fit =
-    let parts = and_parts (ends_fit n e.1) (list_all (λ f. ends_fit n f.1) es) fit in
-    fit_either n (test e.0) e.1 (lookup test es) parts.0 (fit_lookup n test es parts.1)
+  fit_lookup : (test : WordId → Bool) (es : List (WordId × List X)) → list_all (λ e. fits e.1) es ≡ true → fits (unwrap_or (lookup test es) []) ≡ true
+  fit_lookup test [] fit = none
+  fit_lookup test (e ∷ es) fit =
+      let parts = and_parts (fits e.1) (list_all (λ f. fits f.1) es) fit in
+      fit_either (test e.0) e.1 (lookup test es) parts.0 (fit_lookup test es parts.1)
 
 -- the parts of the test of an interpretation
 seven : (a b c d e f g : Bool) → (a && b && c && d && e && f && g) ≡ true
@@ -155,7 +155,7 @@ along_fits true n ps fit = fit_swapped n ps fit
 along_fits false n ps fit = fit
 
 fits_along : (i : Interpretation) → is_interpretation i ≡ true → (role : Role) → ends_fit i.size (pairs_along role i.relations) ≡ true
-fits_along i h role = along_fits role.inverted i.size (pairs_of i role.id) (fit_lookup i.size (is_word role.id) i.relations (parts_of i h).6)
+fits_along i h role = along_fits role.inverted i.size (pairs_of i role.id) (fit_lookup (ends_fit i.size) refl (is_word role.id) i.relations (parts_of i h).6)
 
 pub some_along : (i : Interpretation) → is_interpretation i ≡ true → (role : Role) (x : ℕ) (test : ℕ → Bool)
     → list_any (λ p. (p.0 == x) && test p.1) (pairs_along role i.relations) ≡ some_below i.size (λ y. relates i role x y && test y)
@@ -175,3 +175,18 @@ pub straight : (role : Role) (relations : List (WordId × List (ℕ × ℕ))) (p
 straight role relations ps up found =
     let pairs : List (ℕ × ℕ) = unwrap_or (lookup (is_word role.id) relations) [] in
     ap (λ o. unwrap_or o []) found ∙ sym (ap (λ b. if b then map swapped pairs else pairs) up)
+
+-- a test of each element of a class word is one of the elements that are in the word
+pub each_element : (i : Interpretation) → is_interpretation i ≡ true → (word : WordId) (test : ℕ → Bool)
+    → list_all test (elements_of i word) ≡ each_below i.size (λ x. implies (has_element i word x) (test x))
+each_element i h word test =
+    let n = i.size in
+    let xs = elements_of i word in
+    let pair : ℕ → ℕ × ℕ = λ x. (0, x) in
+    let fit : list_all (λ x. nat_lt x n) xs ≡ true = fit_lookup (list_all (λ x. nat_lt x n)) refl (is_word word) i.classes (parts_of i h).5 in
+    let fits : ends_fit n (map pair xs) ≡ true =
+    list_all-map (λ (p : ℕ × ℕ). nat_lt p.0 n && nat_lt p.1 n) pair xs
+    ∙ (ap (λ b. list_all (λ x. b && nat_lt x n) xs) (parts_of i h).0 ∙ fit) in
+    sym (list_all-map (λ (p : ℕ × ℕ). implies (p.0 == 0) (test p.1)) pair xs)
+    ∙ (each_successor n (map pair xs) fits 0 test
+    ∙ ap (each_below n) (λ t y. implies (list_any-map pair (λ p. (p.0 == 0) && (p.1 == y)) xs t) (test y)))

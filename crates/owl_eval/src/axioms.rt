@@ -37,7 +37,7 @@ fn all_true(interp: &Interp, axioms: &Axioms) -> bool
     true
 }
 
-fn is_true(interp: &Interp, stated: &Axiom) -> bool
+pub(crate) fn is_true(interp: &Interp, stated: &Axiom) -> bool
     ensures { result ≡ holds interp.now (claim_of stated.now) }
 {
     match stated {
@@ -56,8 +56,30 @@ fn is_true(interp: &Interp, stated: &Axiom) -> bool
     }
 }
 
-// Whether each element of the one class is in the other.
+// Whether each element of the one class is in the other. Of a class word only its own elements are looked at.
 fn is_subclass(interp: &Interp, below: &Class, above: &Class) -> bool
+    ensures { result ≡ each_below interp.now.size (λ x. implies (is_in interp.now (concept_of below.now) x) (is_in interp.now (concept_of above.now) x)) }
+{
+    match below {
+        Class::Named(word) => all_in_class(interp, above, interp.elements(*word)),
+        _ => is_included(interp, below, above),
+    }
+}
+
+// Whether each of these elements is in a class.
+fn all_in_class(interp: &Interp, class: &Class, elements: &[u64]) -> bool
+    ensures { result ≡ list_all (is_in interp.now (concept_of class.now)) elements.now }
+{
+    for element in elements {
+        if !in_class(interp, class, *element) {
+            return false;
+        }
+    }
+    true
+}
+
+// Whether each element that is in the one class is in the other, of all that there are.
+fn is_included(interp: &Interp, below: &Class, above: &Class) -> bool
     ensures { result ≡ each_below interp.now.size (λ x. implies (is_in interp.now (concept_of below.now) x) (is_in interp.now (concept_of above.now) x)) }
 {
     for element in 0..interp.size() {

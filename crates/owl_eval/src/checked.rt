@@ -7,6 +7,8 @@ ghost use Rattle.logic_terms.specs.Meaning.{all_hold};
 ghost use Rattle.logic_terms.specs.Reading.{IsModel};
 
 use crate::axioms::is_model;
+use crate::beside::all_true_beside;
+use crate::changes::changed_words;
 use crate::interp::Interp;
 use logic_terms::{Axiom, Axioms};
 use std::mem;
@@ -34,6 +36,45 @@ impl CheckedModel {
             Ok(CheckedModel { interp, axioms })
         } else {
             Err((interp, axioms))
+        }
+    }
+
+    /// The checked model of an interpretation and axioms, or both of them back where it is no model, by what is known of this one:
+    /// where the interpretations have one size, an axiom isn't looked at again that stands at the same place in both, counted from
+    /// the front or from the back, and to whose words both interpretations give the same. It takes memory for the words that
+    /// changed; where that is refused, each axiom is looked at.
+    pub fn grown(&self, interp: Interp, axioms: Axioms) -> Result<CheckedModel, (Interp, Axioms)>
+        ensures accepts { IsOk result ↔ IsModel interp (claims_of axioms) }
+        ensures interp { IfOk result (λ made. kept_interp made ≡ interp) }
+        ensures axioms { IfOk result (λ made. kept_claims made ≡ claims_of axioms) }
+        ensures refuses { IfErr result (λ back. (back.0 ≡ interp) × (back.1 ≡ axioms)) }
+    {
+        if self.are_true_in(&interp, &axioms) {
+            Ok(CheckedModel { interp, axioms })
+        } else {
+            Err((interp, axioms))
+        }
+    }
+
+    /// Whether its interpretation is a model of other axioms. Of these only those are looked at that don't stand at the same place
+    /// in both, counted from the front or from the back. It takes no memory.
+    pub fn is_model_of(&self, axioms: &Axioms) -> bool
+        ensures { IsTrue result ↔ IsModel (kept_interp self.now) (claims_of axioms.now) }
+    {
+        all_true_beside(&self.interp, axioms, &self.axioms, &[])
+    }
+
+    // Whether axioms are true in an interpretation, by what is known of this model.
+    fn are_true_in(&self, interp: &Interp, axioms: &Axioms) -> bool
+        ensures exact { result ≡ all_hold interp.now (claims_of axioms.now) }
+        ensures reading { IsTrue result ↔ IsModel interp.now (claims_of axioms.now) }
+    {
+        if self.interp.size() != interp.size() {
+            return is_model(interp, axioms);
+        }
+        match changed_words(&self.interp, interp) {
+            Ok(changed) => all_true_beside(interp, axioms, &self.axioms, changed.as_slice()),
+            Err(_) => is_model(interp, axioms),
         }
     }
 

@@ -203,6 +203,13 @@ impl Interp {
         }
     }
 
+    // The elements of a class word: a test of each of them is one of the elements that are in the word.
+    pub(crate) fn elements(&self, word: WordId) -> &[u64]
+        ensures { (test : ℕ → Bool) → list_all test result.now ≡ each_below self.now.size (λ x. implies (has_element self.now word x) (test x)) }
+    {
+        elements_in(self.classes.as_slice(), word)
+    }
+
     // Whether a relation word is transitive: where it relates one element to another and that to a third, it relates the
     // one to the third.
     pub(crate) fn is_transitive(&self, word: WordId) -> bool
@@ -240,6 +247,17 @@ fn extent_in(extents: &[Extent], word: WordId) -> Option<&Extent>
     match extents.binary_search_by_key(&word.0, |extent| extent.word().0) {
         Ok(place) => Some(&extents[place]),
         Err(_) => None,
+    }
+}
+
+// The elements of a class word among these.
+fn elements_in(extents: &[Extent], word: WordId) -> &[u64]
+    requires { IsTrue (words_rise extents.now) }
+    ensures { result.now ≡ unwrap_or (lookup (is_word word) extents.now) [] }
+{
+    match extent_in(extents, word) {
+        Some(extent) => extent.elements(),
+        None => &[],
     }
 }
 

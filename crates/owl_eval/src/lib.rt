@@ -1,7 +1,11 @@
 //! Finite interpretations, and which classes, axioms and structures are true in them.
 #![tactic(auto)]
 
+mod alike;
+mod avoiding;
 mod axioms;
+mod beside;
+mod changes;
 mod checked;
 mod extent;
 mod interp;

@@ -1,16 +1,13 @@
-use Rattle.std.proofs.Common.{◌≡◌, ◌<◌, Bool, true, false, sym, ap, ◌∙◌, arith}
+use Rattle.std.proofs.Common.{sym, ap, ◌∙◌}
 use Rattle.logic_terms.specs.Shown.{concept_of}
-use Rattle.logic_terms.specs.Meaning.{implies, is_in}
-use Rattle.logic_terms.proofs.Places.{each_below_fails}
+use Rattle.logic_terms.specs.Meaning.{implies, each_below, is_in}
+use Rattle.logic_terms.proofs.ShownLemmas.{concept_of-Named}
 use Rattle.owl_eval.proofs.axioms.is_subclass.Goals as goal
 
-no_implication : (a b : Bool) → a ≡ true → b ≡ false → implies a b ≡ false
-no_implication a b e f = ap (λ x. implies x b) e ∙ ap (implies true) f
-
-pub returns-then-not-in_class : goal.returns-then-not-in_class
-returns-then-not-in_class c =
+pub returns-in-Named : goal.returns-in-Named
+returns-in-Named c =
     let i = c.args.interp.now in
-    let x = c.loop-element.element in
-    let lt : x < i.size = omega (arith, c.loop-element-test.true, c.size-element-end.ensures.size) in
-    sym (each_below_fails (λ y. implies (is_in i (concept_of c.args.below.now) y) (is_in i (concept_of c.args.above.now) y)) x i.size lt
-    (no_implication _ _ (sym c.in_class.ensures.exact ∙ c.if-in_class.true) (sym c.in_class-then-in_class.ensures.exact ∙ c.if-not-in_class.true)))
+    let above = is_in i (concept_of c.args.above.now) in
+    c.all_in_class.ensures
+    ∙ (c.elements.ensures above
+    ∙ sym (ap (λ k. each_below i.size (λ x. implies (is_in i k x) (above x))) (ap concept_of c.in-Named.is ∙ concept_of-Named c.in-Named.word)))

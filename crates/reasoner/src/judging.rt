@@ -49,22 +49,28 @@ pub fn verdict(
     ensures short { IfOk result (λ v. IfSpent v (λ _. IsBelowWithoutNewNodes (claims_of axioms) names.now budget)) }
     ensures not_kept { IfOk result (λ v. IfSpent v (λ _. ¬ IsModel (kept_interp kept.now) (claims_of axioms))) }
 {
-    let interp = kept.interp().copy()?;
-    match CheckedModel::new(interp, axioms) {
-        Ok(model) => Ok(Verdict::Consistent(model)),
-        Err(refused) => {
-            let (interp, axioms) = refused;
-            grown_verdict(alloc, interp, axioms, names, budget)
-        }
+    if kept.is_model_of(&axioms) {
+        return Ok(Verdict::Consistent(kept_model(kept, axioms)?));
     }
+    grown_verdict(alloc, axioms, names, kept, budget)
 }
 
-// The verdict where this interpretation is no model of the axioms: one that grows out of it is tried before the search.
+// The kept interpretation as a checked model of axioms that it is a model of.
+fn kept_model(kept: &CheckedModel, axioms: Axioms) -> Result<CheckedModel, Memory>
+    requires { IsModel (kept_interp kept.now) (claims_of axioms) }
+    ensures interp { IfOk result (λ made. kept_interp made ≡ kept_interp kept.now) }
+    ensures axioms { IfOk result (λ made. kept_claims made ≡ claims_of axioms) }
+{
+    let interp = kept.interp().copy()?;
+    Ok(kept.grown(interp, axioms).unwrap())
+}
+
+// The verdict where the kept interpretation is no model of the axioms: one that grows out of it is tried before the search.
 fn grown_verdict(
     alloc: Global,
-    interp: Interp,
     axioms: Axioms,
     names: &Names,
+    kept: &CheckedModel,
     budget: u64,
 ) -> Result<Verdict, Memory>
     requires over { IsTrue (are_over names.now (claims_of axioms)) }
@@ -81,8 +87,8 @@ fn grown_verdict(
     if budget < LEAST_PROPOSING_BUDGET {
         return searched_verdict(alloc, axioms, names, budget);
     }
-    match grow(alloc, &interp, &axioms, names)? {
-        Some(grown) => tried_verdict(alloc, grown, axioms, names, budget),
+    match grow(alloc, kept.interp(), &axioms, names)? {
+        Some(grown) => tried_verdict(alloc, grown, axioms, names, kept, budget),
         None => searched_verdict(alloc, axioms, names, budget),
     }
 }
@@ -93,6 +99,7 @@ fn tried_verdict(
     interp: Interp,
     axioms: Axioms,
     names: &Names,
+    kept: &CheckedModel,
     budget: u64,
 ) -> Result<Verdict, Memory>
     requires over { IsTrue (are_over names.now (claims_of axioms)) }
@@ -106,7 +113,7 @@ fn tried_verdict(
     ensures straight { IfOk result (λ v. IfSpent v (λ _. IsBelowWithoutChoices (claims_of axioms) names.now budget)) }
     ensures short { IfOk result (λ v. IfSpent v (λ _. IsBelowWithoutNewNodes (claims_of axioms) names.now budget)) }
 {
-    match CheckedModel::new(interp, axioms) {
+    match kept.grown(interp, axioms) {
         Ok(model) => {
             let _ = model.interp();
             Ok(Verdict::Consistent(model))

@@ -64,6 +64,15 @@ fn three_elements(rt: &impl Abort, alloc: Global) -> Result<Interp, Fail> {
     interp_of(rt, alloc, 3, names, classes, relations)
 }
 
+// The same three with nothing but that Rex is a dog, and that both he and Mary are persons.
+fn two_persons(rt: &impl Abort, alloc: Global) -> Result<Interp, Fail> {
+    let names = listed(alloc, &[(MARY, 0), (BERN, 1), (REX, 2)])?;
+    let dogs = listed(alloc, &[2])?;
+    let persons = listed(alloc, &[0, 2])?;
+    let classes = vec![in alloc; (DOG, dogs), (PERSON, persons)]?;
+    interp_of(rt, alloc, 3, names, classes, Vec::new(alloc))
+}
+
 // Mary and Rex are one element; the two elements own each other, and the other one is a dog.
 fn two_elements(rt: &impl Abort, alloc: Global) -> Result<Interp, Fail> {
     let names = listed(alloc, &[(MARY, 1), (REX, 1)])?;
@@ -365,6 +374,29 @@ fn a_checked_model_is_made_of_a_model_alone(rt: HostRuntime) -> Result<(), Fail>
     };
     assert_eq!(rt; interp.size(), 3);
     assert_eq!(rt; axioms.len(), 3);
+    Ok(())
+}
+
+#[test]
+fn a_checked_model_grows_by_what_is_new(rt: HostRuntime) -> Result<(), Fail> {
+    let alloc = rt.alloc();
+    let mut axioms = Axioms::new(alloc);
+    axioms.push(Axiom::Member(Class::Named(PERSON), MARY))?;
+    axioms.push(Axiom::Member(Class::Named(DOG), REX))?;
+    let Ok(kept) = CheckedModel::new(three_elements(&rt, alloc)?, axioms.copy()?) else {
+        return Err(Fail::from("no model"));
+    };
+    assert!(rt; kept.is_model_of(&axioms));
+    axioms.push(Axiom::Member(Class::Named(PERSON), REX))?;
+    assert!(rt; !kept.is_model_of(&axioms));
+    let Err((interp, axioms)) = kept.grown(three_elements(&rt, alloc)?, axioms) else {
+        return Err(Fail::from("a model"));
+    };
+    assert_eq!(rt; interp.size(), 3);
+    let Ok(grown) = kept.grown(two_persons(&rt, alloc)?, axioms) else {
+        return Err(Fail::from("no model"));
+    };
+    assert_eq!(rt; grown.axioms().len(), 3);
     Ok(())
 }
 

@@ -1,2 +1,3 @@
 pub mod ClosestLemmas
 pub mod ClosingLemmas
+pub mod NewestLemmas

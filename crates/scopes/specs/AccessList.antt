@@ -1,5 +1,5 @@
 -- Access lists: the referents that a reference may find, with the openers of scopes between them.
-use Rattle.std.specs.Prelude.{ℕ, List, [], ◌∷◌, ◌++◌, Bool, true, false, if◌then◌else◌}
+use Rattle.std.specs.Prelude.{ℕ, List, [], ◌∷◌, ◌-◌, Bool, true, false, if◌then◌else◌, length, drop}
 use Rattle.std.specs.List.{list_any}
 use Rattle.codeco_terms.specs.declared.categories.Ground.{Ground}
 use Rattle.scopes.specs.declared.entries.Entry.{Entry}
@@ -20,6 +20,13 @@ closed (Opener ∷ rest) = strong_referents rest
 closed (Weak referent pos ∷ rest) = Weak referent pos ∷ closed rest
 closed (Strong referent pos ∷ rest) = Strong referent pos ∷ closed rest
 
+-- the entries without the openers
+abbrev pub referents : List Entry → List Entry
+referents [] = []
+referents (Opener ∷ rest) = referents rest
+referents (Weak referent pos ∷ rest) = Weak referent pos ∷ referents rest
+referents (Strong referent pos ∷ rest) = Strong referent pos ∷ referents rest
+
 -- the entry of a referent that is introduced at the position
 abbrev pub introduced : Ground → ℕ → Bool → Entry
 introduced referent pos strong = if strong then Strong referent pos else Weak referent pos
@@ -33,6 +40,10 @@ is_opener (Strong referent pos) = false
 abbrev pub any_opener : List Entry → Bool
 any_opener entries = list_any is_opener entries
 
--- what closing leaves of an entry after others, which had an opener or not
-abbrev pub left_of : Bool → Entry → List Entry
-left_of opened entry = if opened then strong_referents (entry ∷ []) else closed (entry ∷ [])
+-- so many of the newest entries
+abbrev pub newest_of : ℕ → List Entry → List Entry
+newest_of count entries = drop (length entries - count) entries
+
+-- what closing leaves of entries after others, which had an opener or not
+abbrev pub left_of : Bool → List Entry → List Entry
+left_of opened entries = if opened then strong_referents entries else closed entries

@@ -5,6 +5,7 @@
 mod access;
 mod agreement;
 mod entries;
+mod sameness;
 
 pub use access::{Access, Found};
 pub use agreement::{Test, TestList, TestValues, Tests, agrees, has_value};

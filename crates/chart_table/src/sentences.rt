@@ -8,10 +8,11 @@ ghost use Rattle.derivation_trees.specs.Partial.{CutNode, IsPartialDerivation, I
 ghost use Rattle.wiki_base.specs.declared.tokens.TheConstants.{MOST_TOKENS};
 ghost use Rattle.chart_table.specs.declared.asks.Ask.{Ask as OneAsk};
 ghost use Rattle.chart_table.specs.Asks.{AskLeads};
+ghost use Rattle.chart_table.specs.Choices as choosing;
 ghost use Rattle.chart_table.specs.Table as tables;
 
 use crate::asks::Ask;
-use crate::choices::plans_of;
+use crate::choices::{Plan, plans_of};
 use crate::states::{Aim, Cut, End};
 use crate::table::{Row, row_of, token_count};
 use codeco_checked::{CheckedGrammar, FIRST_PLAIN};
@@ -76,7 +77,8 @@ pub fn begins(
 fn is_sentence(alloc: Global, setting: &Setting<'_>) -> Result<bool, Memory>
     ensures { IfOk result (λ yes. IsTrue yes ↔ ((tree : Node) × IsDerivation setting.now tree)) }
 {
-    let standing = standing_of(alloc, setting)?;
+    let plans = plans_of(alloc, setting.grammar)?;
+    let standing = standing_of(alloc, setting, plans.as_slice())?;
     Ok(standing.derives)
 }
 
@@ -84,12 +86,19 @@ fn is_sentence(alloc: Global, setting: &Setting<'_>) -> Result<bool, Memory>
 fn is_beginning(alloc: Global, setting: &Setting<'_>) -> Result<bool, Memory>
     ensures { IfOk result (λ yes. IsTrue yes ↔ ((cut : CutNode) × IsPartialDerivation setting.now cut)) }
 {
-    let standing = standing_of(alloc, setting)?;
+    let plans = plans_of(alloc, setting.grammar)?;
+    let standing = standing_of(alloc, setting, plans.as_slice())?;
     Ok(standing.begins)
 }
 
-/// Whether the setting's tokens have a partial derivation, and whether they have a derivation, by one table.
-pub fn standing_of(alloc: Global, setting: &Setting<'_>) -> Result<Standing, Memory>
+/// Whether the setting's tokens have a partial derivation, and whether they have a derivation, by one table. The plans are those
+/// of the grammar's rules.
+pub fn standing_of(
+    alloc: Global,
+    setting: &Setting<'_>,
+    plans: &[Plan],
+) -> Result<Standing, Memory>
+    requires plans { choosing.ArePlans setting.now plans.now }
     ensures begins { IfOk result (λ standing. IsTrue standing.begins ↔ ((cut : CutNode) × IsPartialDerivation setting.now cut)) }
     ensures derives { IfOk result (λ standing. IsTrue standing.derives ↔ ((tree : Node) × IsDerivation setting.now tree)) }
 {
@@ -101,17 +110,22 @@ pub fn standing_of(alloc: Global, setting: &Setting<'_>) -> Result<Standing, Mem
         asks: &any,
         made: &made,
     };
-    let row = text_row(alloc, setting, &aim)?;
+    let row = text_row(alloc, setting, plans, &aim)?;
     let derives = some_ends_at(row.ends.as_slice(), count);
     let begins = has_ask(row.cuts.as_slice(), 0);
     Ok(Standing { begins, derives })
 }
 
 // The row of the category of sentences from place 0 and the empty list.
-fn text_row(alloc: Global, setting: &Setting<'_>, aim: &Aim<'_>) -> Result<Row, Memory>
+fn text_row(
+    alloc: Global,
+    setting: &Setting<'_>,
+    plans: &[Plan],
+    aim: &Aim<'_>,
+) -> Result<Row, Memory>
+    requires { choosing.ArePlans setting.now plans.now }
     ensures { IfOk result (tables.IsTextRow setting.now aim.now) }
 {
-    let plans = plans_of(alloc, setting.grammar)?;
     let mut rows = List::new(alloc);
     let known = List::new(alloc);
     let list = List::new(alloc);
@@ -119,7 +133,7 @@ fn text_row(alloc: Global, setting: &Setting<'_>, aim: &Aim<'_>) -> Result<Row, 
         alloc,
         setting,
         aim,
-        plans.as_slice(),
+        plans,
         &mut rows,
         DEEPEST,
         FIRST_PLAIN,
@@ -138,13 +152,15 @@ fn has_ask(cuts: &[Cut], number: usize) -> bool
 }
 
 /// For each of the asks, whether a partial derivation that is cut off at the place, which begins with the tokens before it,
-/// meets the ask there: by one table.
+/// meets the ask there: by one table. The plans are those of the grammar's rules.
 pub fn may_follow(
     alloc: Global,
     setting: &Setting<'_>,
+    plans: &[Plan],
     halt: usize,
     asks: &[Ask],
 ) -> Result<List<bool>, Memory>
+    requires plans { choosing.ArePlans setting.now plans.now }
     ensures count { IfOk result (λ follows. length follows ≡ length asks.now) }
     ensures each { IfOk result (λ follows. (j : ℕ) (a : OneAsk) (yes : Bool) → slice_get asks.now j ≡ Some a → slice_get follows j ≡ Some yes
         → IsTrue yes ↔ AskLeads setting.now halt a text_category (record { place = 0; list = [] })) }
@@ -155,7 +171,7 @@ pub fn may_follow(
         asks,
         made: &made,
     };
-    let row = text_row(alloc, setting, &aim)?;
+    let row = text_row(alloc, setting, plans, &aim)?;
     follows(alloc, row.cuts.as_slice(), asks.len())
 }
 

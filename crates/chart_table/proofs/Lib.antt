@@ -7,6 +7,7 @@ pub mod PassLemmas
 pub mod OneOfLemmas
 pub mod OpenerLemmas
 pub mod BranchLemmas
+pub mod MeetLemmas
 pub mod StepLemmas
 pub mod ChoiceLemmas
 pub mod PlanLemmas

@@ -1,5 +1,5 @@
 -- The ways in which variables of a rule can be given values, as lists of partial assignments.
-use Rattle.std.specs.Prelude.{◌≡◌, ℕ, ◌==◌, if◌then◌else◌, List, [], ◌∷◌, ◌++◌, Option, Some, None, option_map, ◌⊎◌, flat_map}
+use Rattle.std.specs.Prelude.{◌≡◌, ℕ, ◌==◌, Bool, if◌then◌else◌, List, [], ◌∷◌, ◌++◌, Option, Some, None, option_map, ◌⊎◌, flat_map}
 use Rattle.std.specs.List.{filter_map}
 use Rattle.codeco_terms.specs.declared.values.Value.{Value}
 use Rattle.codeco_terms.specs.declared.values.Term.{Term}
@@ -65,6 +65,10 @@ meeting_one p (q ∷ feats) bs = meeting_one p feats (if p.0 == q.0 then restric
 abbrev pub meeting : List (ℕ × Value) → List (ℕ × Term) → List (List (ℕ × Value)) → List (List (ℕ × Value))
 meeting [] feats bs = bs
 meeting (p ∷ vals) feats bs = meeting vals feats (meeting_one p feats bs)
+
+-- the assignment alone, or none
+abbrev pub one_if : Bool → List (ℕ × Value) → List (List (ℕ × Value))
+one_if there bound = if there then bound ∷ [] else []
 
 -- the value of a term, where it is known
 abbrev pub known_value : List (ℕ × Value) → Term → Option Value

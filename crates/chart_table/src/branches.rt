@@ -11,6 +11,9 @@ use lists::List;
 use std::alloc::Global;
 use wiki_base::Memory;
 
+/// How many more variables the copy of an assignment has room for at once.
+const ROOM: usize = 4;
+
 // The value that the variable has, if it has one.
 pub(crate) fn value_of(bound: &[(u8, Value)], variable: u8) -> Option<Value>
     ensures { result ≡ looked_up bound.now variable }
@@ -26,11 +29,9 @@ pub(crate) fn value_of(bound: &[(u8, Value)], variable: u8) -> Option<Value>
 pub(crate) fn copy_bound(alloc: Global, bound: &[(u8, Value)]) -> Result<Bound, Memory>
     ensures { IfOk result (λ copied. copied ≡ bound.now) }
 {
-    let mut copied = List::new(alloc);
-    for pair in bound {
-        copied.push(*pair)?;
-    }
-    Ok(copied)
+    let mut copied = Vec::with_capacity(alloc, bound.len().saturating_add(ROOM))?;
+    copied.extend_from_slice(bound)?;
+    Ok(List::from_vec(copied))
 }
 
 fn copy_if(alloc: Global, yes: bool, bound: &[(u8, Value)]) -> Result<Option<Bound>, Memory>
@@ -255,61 +256,85 @@ pub(crate) fn read_as(
     }
 }
 
-fn one_value(alloc: Global, value: Value) -> Result<List<Value>, Memory>
-    ensures { IfOk result (λ out. out ≡ value ∷ []) }
+// Gives the variable the value, where it has none; tells whether it has the value then.
+fn bind_variable(bound: &mut Bound, variable: u8, value: Value) -> Result<bool, Memory>
+    ensures { IfOk result (λ yes. branches.bound_at bound.old variable value (looked_up bound.old variable)
+        ≡ (if yes then Some bound.new else None)) }
 {
-    let mut out = List::new(alloc);
-    out.push(value)?;
-    Ok(out)
+    match value_of(bound.as_slice(), variable) {
+        None => {
+            bound.push((variable, value))?;
+            Ok(true)
+        }
+        Some(known) => Ok(known.is(value)),
+    }
 }
 
-// The assignments under which the feature, if it is that of the value, has the value.
-fn meet_at(
-    alloc: Global,
-    pair: (u16, Value),
-    feat: Feat,
-    bounds: List<Bound>,
-) -> Result<List<Bound>, Memory>
-    ensures { IfOk result
-        (λ out. out ≡ (if pair.0 == feat.0 then branches.restricted feat.1 (pair.1 ∷ []) bounds else bounds)) }
+// Gives the term the value, where it has none; tells whether it has the value then.
+fn bind(bound: &mut Bound, term: Term, value: Value) -> Result<bool, Memory>
+    ensures { IfOk result (λ yes. branches.bound_term bound.old term value ≡ (if yes then Some bound.new else None)) }
+{
+    match term {
+        Term::Val(known) => Ok(known.is(value)),
+        Term::Var(variable) => bind_variable(bound, variable, value),
+    }
+}
+
+// Gives the feature, where it is that of the value, the value; tells whether it has it then.
+fn meet_at(bound: &mut Bound, pair: (u16, Value), feat: Feat) -> Result<bool, Memory>
+    ensures { IfOk result (λ yes. (if pair.0 == feat.0 then branches.restricted feat.1 (pair.1 ∷ []) (bound.old ∷ []) else bound.old ∷ [])
+        ≡ branches.one_if yes bound.new) }
 {
     if pair.0 == feat.0 {
-        let values = one_value(alloc, pair.1)?;
-        restrict(alloc, feat.1, values.as_slice(), bounds.as_slice())
+        bind(bound, feat.1, pair.1)
     } else {
-        Ok(bounds)
+        Ok(true)
     }
 }
 
-fn meet_one(
-    alloc: Global,
-    pair: (u16, Value),
-    feats: &[Feat],
-    bounds: List<Bound>,
-) -> Result<List<Bound>, Memory>
-    ensures { IfOk result (λ out. out ≡ branches.meeting_one pair feats.now bounds) }
+// Gives the features that are those of the value the value; tells whether all have it then.
+fn meet_one(bound: &mut Bound, pair: (u16, Value), feats: &[Feat]) -> Result<bool, Memory>
+    ensures { IfOk result (λ yes. branches.meeting_one pair feats.now (bound.old ∷ []) ≡ branches.one_if yes bound.new) }
 {
-    let mut all = bounds;
     for feat in feats {
-        all = meet_at(alloc, pair, *feat, all)?;
+        if !meet_at(bound, pair, *feat)? {
+            return Ok(false);
+        }
     }
-    Ok(all)
+    Ok(true)
 }
 
-// The assignments under which each feature that is written in both has the value that is given.
+// Makes each feature that is written in both have the value that is given; tells whether that could be done.
 pub(crate) fn meet(
+    bound: &mut Bound,
+    vals: &[(u16, Value)],
+    feats: &[Feat],
+) -> Result<bool, Memory>
+    ensures { IfOk result (λ yes. branches.meeting vals.now feats.now (bound.old ∷ []) ≡ branches.one_if yes bound.new) }
+{
+    for pair in vals {
+        if !meet_one(bound, *pair, feats)? {
+            return Ok(false);
+        }
+    }
+    Ok(true)
+}
+
+// The assignment under which each feature that is written in both has the value that is given, if there is one.
+pub(crate) fn meeting(
     alloc: Global,
     vals: &[(u16, Value)],
     feats: &[Feat],
-    bounds: List<Bound>,
+    bound: &[(u8, Value)],
 ) -> Result<List<Bound>, Memory>
-    ensures { IfOk result (λ out. out ≡ branches.meeting vals.now feats.now bounds) }
+    ensures { IfOk result (λ out. out ≡ branches.meeting vals.now feats.now (bound.now ∷ [])) }
 {
-    let mut all = bounds;
-    for pair in vals {
-        all = meet_one(alloc, *pair, feats, all)?;
+    let mut out = List::new(alloc);
+    let mut more = copy_bound(alloc, bound)?;
+    if meet(&mut more, vals, feats)? {
+        out.push(more)?;
     }
-    Ok(all)
+    Ok(out)
 }
 
 // The features whose values are known.
@@ -320,7 +345,7 @@ pub(crate) fn known_features(
 ) -> Result<List<(u16, Value)>, Memory>
     ensures { IfOk result (λ out. out ≡ branches.known_features bound.now feats.now) }
 {
-    let mut out = List::new(alloc);
+    let mut out = List::from_vec(Vec::with_capacity(alloc, feats.len())?);
     for feat in feats {
         if let Some(value) = known_value(bound, feat.1) {
             out.push((feat.0, value))?;

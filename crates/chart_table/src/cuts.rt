@@ -5,7 +5,7 @@ ghost use Rattle.chart_table.specs.Choices as choosing;
 ghost use Rattle.chart_table.specs.Cuts as cutting;
 
 use crate::asks::Ask;
-use crate::branches::{alone, copy_bound, meet, read_as};
+use crate::branches::{alone, copy_bound, meeting, read_as};
 use crate::choices::Plan;
 use crate::ends::{finished, has_values, is_instance, values_of_all};
 use crate::sameness::same_values;
@@ -330,8 +330,15 @@ fn push_cut_within(
     ensures { OnOk result (cutting.HasHeads setting.now rule.now
         (cutting.IsOf cut.now.ask (cutting.within_binds category.now bound.now cut.now)) cuts.old cuts.new) }
 {
-    let one = alone(alloc, bound)?;
-    let bounds = meet(alloc, cut.values.as_slice(), category.feats.as_slice(), one)?;
+    let bounds = meeting(
+        alloc,
+        cut.values.as_slice(),
+        category.feats.as_slice(),
+        bound,
+    )?;
+    if bounds.is_empty() {
+        return Ok(());
+    }
     push_heads(alloc, setting, rule, plan, cut.ask, bounds, cuts)?;
     Ok(())
 }

@@ -1,6 +1,9 @@
 // Where the phrases of categories end: a table of ends, filled from the top.
 ghost use Rattle.std.specs.Prelude.{◌≡◌, ◌+◌, ◌≤◌, ◌<◌, ◌∷◌, [], ◌++◌, map, drop, length, ℕ, List, Some, All, IfOk, IfSome, OnOk, true, slice_get, ◌&&◌, if◌then◌else◌, IsTrue};
-ghost use Rattle.std.specs.List.{list_all, flat_map};
+ghost use Rattle.std.specs.List.{list_all, flat_map, cons_option};
+ghost use Rattle.codeco_terms.specs.declared.values.Value.{Value as OneValue};
+ghost use Rattle.codeco_terms.specs.declared.values.Term.{Term as OneTerm};
+ghost use Rattle.codeco_terms.specs.declared.values.Term.TheVariants.{Var};
 ghost use Rattle.codeco_checked.specs.Occurrences.{positions};
 ghost use Rattle.codeco_terms.specs.Values.{same_value};
 ghost use Rattle.scopes.specs.declared.entries.Entry.{Entry as OneEntry};
@@ -13,7 +16,7 @@ ghost use Rattle.chart_table.specs.Choices as choosing;
 ghost use Rattle.chart_table.specs.Steps as steps;
 ghost use Rattle.chart_table.specs.Ends as ending;
 
-use crate::branches::alone;
+use crate::branches::{alone, value_of};
 use crate::choices::Plan;
 use crate::fits::is_planned;
 use crate::states::{Bound, End, Feat, State};
@@ -53,7 +56,7 @@ pub(crate) fn values_of_all(
 ) -> Result<List<(u8, Value)>, Memory>
     ensures { IfOk result (λ values. values ≡ ending.values_of_all bound.now numbers.now) }
 {
-    let mut values = List::new(alloc);
+    let mut values = List::from_vec(Vec::with_capacity(alloc, numbers.len())?);
     for number in numbers {
         let variable = variable_with(*number)?;
         values.push((variable, value_under(bound, variable)))?;
@@ -156,8 +159,31 @@ fn end_with(
     })
 }
 
+// Whether the variable has a value in the assignment.
+fn is_bound(bound: &[(u8, Value)], number: usize) -> bool
+    ensures { result ≡ true → (values : List OneValue) → branches.chosen_for (Var number) values bound.now ≡ bound.now ∷ [] }
+{
+    match u8::try_from(number) {
+        Ok(variable) => value_of(bound, variable).is_some(),
+        Err(_) => false,
+    }
+}
+
+// Whether each of the variables has a value in the assignment.
+pub(crate) fn are_bound(bound: &[(u8, Value)], numbers: &[usize]) -> bool
+    ensures { result ≡ true → (choices : OneTerm → List OneValue)
+        → branches.closing choices (ending.as_terms numbers.now) (bound.now ∷ []) ≡ bound.now ∷ [] }
+{
+    for number in numbers {
+        if !is_bound(bound, *number) {
+            return false;
+        }
+    }
+    true
+}
+
 // The end in an assignment of all variables, if that is an instance.
-fn finished_one(
+pub(crate) fn finished_one(
     alloc: Global,
     setting: &Setting<'_>,
     rule: &Rule,
@@ -165,18 +191,26 @@ fn finished_one(
     before: &Access,
     state: &State,
     bound: &[(u8, Value)],
-) -> Result<List<End>, Memory>
+) -> Result<Option<End>, Memory>
     requires { choosing.IsPlan setting.now rule.now plan.now }
-    ensures { IfOk result (λ ends. ends
+    ensures { IfOk result (λ end. cons_option end []
         ≡ ending.finished_one setting.now rule.now before.now state.now plan.now.variables bound.now) }
 {
-    let mut ends = List::new(alloc);
     let values = values_of_all(alloc, bound, plan.variables.as_slice())?;
     if is_instance(setting, rule, plan, values.as_slice()) && has_values(values.as_slice(), bound) {
         let end = end_with(alloc, rule, before, state, values.as_slice())?;
-        ends.push(end)?;
+        return Ok(Some(end));
     }
-    Ok(ends)
+    Ok(None)
+}
+
+fn push_some(end: Option<End>, out: &mut List<End>) -> Result<(), Memory>
+    ensures { OnOk result (out.new ≡ out.old ++ cons_option end []) }
+{
+    match end {
+        None => Ok(()),
+        Some(end) => out.push(end),
+    }
 }
 
 // The ends in these assignments of all variables, where they are instances.
@@ -195,8 +229,8 @@ fn finished_all(
 {
     let mut ends = List::new(alloc);
     for bound in bounds {
-        let more = finished_one(alloc, setting, rule, plan, before, state, bound.as_slice())?;
-        ends.append(more)?;
+        let end = finished_one(alloc, setting, rule, plan, before, state, bound.as_slice())?;
+        push_some(end, &mut ends)?;
     }
     Ok(ends)
 }

@@ -48,6 +48,20 @@ pub(crate) fn push_placed(
     Ok(())
 }
 
+// Adds the state with the assignment.
+fn push_one(
+    place: u16,
+    list: Access,
+    bound: &[(u8, Value)],
+    alloc: Global,
+    out: &mut List<State>,
+) -> Result<(), Memory>
+    ensures { OnOk result (out.new ≡ out.old ++ steps.placed place list (bound.now ∷ [])) }
+{
+    let binds = copy_bound(alloc, bound)?;
+    out.push(State { binds, place, list })
+}
+
 // The assignments under which the term is known: those under which it isn't have each of its choices.
 fn close_term(
     alloc: Global,
@@ -447,10 +461,13 @@ fn push_terminal(
 {
     match after_terminal(setting, terminal, state.place) {
         None => Ok(()),
-        Some(place) => {
-            let one = alone(alloc, state.binds.as_slice())?;
-            push_placed(place, &state.list, one.as_slice(), alloc, out)
-        }
+        Some(place) => push_one(
+            place,
+            state.list.share()?,
+            state.binds.as_slice(),
+            alloc,
+            out,
+        ),
     }
 }
 
@@ -499,9 +516,8 @@ fn push_opened(alloc: Global, state: &State, out: &mut List<State>) -> Result<()
     ensures { OnOk result (out.new ≡ out.old
         ++ steps.placed state.now.place (state.now.list ++ entry.Opener ∷ []) (state.now.binds ∷ [])) }
 {
-    let one = alone(alloc, state.binds.as_slice())?;
     let list = state.list.push_opener()?;
-    push_placed(state.place, &list, one.as_slice(), alloc, out)
+    push_one(state.place, list, state.binds.as_slice(), alloc, out)
 }
 
 fn push_back(
@@ -619,13 +635,16 @@ fn push_end(
 ) -> Result<(), Memory>
     ensures { OnOk result (out.new ≡ out.old ++ steps.sub_step category.now state.now end.now) }
 {
-    let one = alone(alloc, state.binds.as_slice())?;
-    let bounds = meet(alloc, end.values.as_slice(), category.feats.as_slice(), one)?;
-    if bounds.is_empty() {
+    let mut binds = copy_bound(alloc, state.binds.as_slice())?;
+    if !meet(&mut binds, end.values.as_slice(), category.feats.as_slice())? {
         return Ok(());
     }
     let list = extended(&state.list, end.tail.as_slice())?;
-    push_placed(end.place, &list, bounds.as_slice(), alloc, out)
+    out.push(State {
+        binds,
+        place: end.place,
+        list,
+    })
 }
 
 // Adds the states after a category, by the ends of its phrases.

@@ -1,5 +1,6 @@
 // The table of ends: a row for each category with known values, place and list that was asked for.
 ghost use Rattle.std.specs.Prelude.{◌≡◌, ◌+◌, ◌≤◌, ◌<◌, ◌∷◌, [], ◌++◌, map, drop, length, ℕ, List, Some, All, IfOk, IfSome, OnOk, true, false, slice_get, flat_map};
+ghost use Rattle.std.specs.List.{cons_option};
 ghost use Rattle.codeco_checked.specs.Occurrences.{positions};
 ghost use Rattle.scopes.specs.declared.entries.Entry.{Entry as OneEntry};
 ghost use Rattle.derivation_trees.specs.Instances as instances;
@@ -20,10 +21,10 @@ ghost use Rattle.chart_table.specs.declared.table.Row.{Row as OneRow};
 use crate::branches::{known_features, meet};
 use crate::choices::{Plan, count_at, features_at, plan_for};
 use crate::cuts::{push_cuts_here, push_cuts_within};
-use crate::ends::finished;
+use crate::ends::{are_bound, finished, finished_one};
 use crate::sameness::{same_end, same_entries, same_values};
 use crate::states::{Aim, Bound, Cut, End, Feat, State};
-use crate::steps::{extended, push_ends, push_placed, push_plain};
+use crate::steps::{extended, push_ends, push_plain};
 use codeco_terms::{Category, Element, Rule, Value};
 use derivation_trees::{Setting, may_start};
 use lists::List;
@@ -152,10 +153,41 @@ fn push_finished(
     ensures { OnOk result (ending.HasFinished setting.now rule.now before.now states.now out.old out.new) }
 {
     for state in states {
-        let ends = finished(alloc, setting, rule, plan, before, state)?;
-        push_all_new(alloc, ends.as_slice(), out)?;
+        push_state_ends(alloc, setting, rule, plan, before, state, out)?;
     }
     Ok(())
+}
+
+// Adds the end, if there is one and it isn't there yet.
+fn push_some_new(end: Option<End>, out: &mut List<End>) -> Result<(), Memory>
+    ensures { OnOk result (ending.HasMore out.old out.new (cons_option end [])) }
+{
+    match end {
+        None => Ok(()),
+        Some(end) => push_new(end, out),
+    }
+}
+
+// Adds the ends of phrases of the rule that stand in this state after the last element.
+fn push_state_ends(
+    alloc: Global,
+    setting: &Setting<'_>,
+    rule: &Rule,
+    plan: &Plan,
+    before: &Access,
+    state: &State,
+    out: &mut List<End>,
+) -> Result<(), Memory>
+    requires { choosing.IsPlan setting.now rule.now plan.now }
+    ensures { OnOk result (ending.HasMore out.old out.new (ending.finished setting.now rule.now before.now state.now)) }
+{
+    let bound = state.binds.as_slice();
+    if are_bound(bound, plan.variables.as_slice()) {
+        let end = finished_one(alloc, setting, rule, plan, before, state, bound)?;
+        return push_some_new(end, out);
+    }
+    let ends = finished(alloc, setting, rule, plan, before, state)?;
+    push_all_new(alloc, ends.as_slice(), out)
 }
 
 fn add_count(number: u16, count: usize) -> Result<u16, Memory>
@@ -197,11 +229,13 @@ pub(crate) fn start_states(
 ) -> Result<List<State>, Memory>
     ensures { IfOk result (λ states. states ≡ steps.starting known.now feats.now place list.now) }
 {
-    let mut none: List<Bound> = List::new(alloc);
-    none.push(List::new(alloc))?;
-    let bounds = meet(alloc, known, feats, none)?;
     let mut states = List::new(alloc);
-    push_placed(place, list, bounds.as_slice(), alloc, &mut states)?;
+    let mut binds: Bound = List::new(alloc);
+    if !meet(&mut binds, known, feats)? {
+        return Ok(states);
+    }
+    let list = list.share()?;
+    states.push(State { binds, place, list })?;
     Ok(states)
 }
 

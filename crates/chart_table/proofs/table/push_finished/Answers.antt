@@ -1,5 +1,3 @@
-use Rattle.std.proofs.Common.{◌∙◌, subst}
-use Rattle.chart_table.specs.Ends.{HasMore}
 use Rattle.chart_table.proofs.EndLemmas.{finished_none}
 use Rattle.chart_table.proofs.TurnLemmas.{finished_turn, finished_done}
 use Rattle.chart_table.proofs.table.push_finished.Goals as goal
@@ -10,8 +8,8 @@ loop-state-init c = finished_none c.args.setting.now c.args.rule.now c.args.befo
 pub loop-state-preserved : goal.loop-state-preserved
 loop-state-preserved c =
     finished_turn c.args.setting.now c.args.rule.now c.args.before.now c.args.states.now c.loop-state.state-index c.state-item.result c.args.out.now
-    c.loop-state.out c.push_all_new.new.out c.loop-state-test.true c.state-item.is c.loop-state.invariant
-    (subst (HasMore c.loop-state.out c.push_all_new.new.out) (c.as_slice.ensures ∙ c.in_ok-ends.ensures) c.in_ok-push_all_new.ensures)
+    c.loop-state.out c.push_state_ends.new.out c.loop-state-test.true c.state-item.is c.loop-state.invariant
+    c.in_ok-push_state_ends.ensures
 
 pub returns : goal.returns
 returns c =

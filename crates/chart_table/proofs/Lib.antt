@@ -19,5 +19,6 @@ pub mod SentenceLemmas
 pub mod AskLemmas
 pub mod CutLemmas
 pub mod HeadLemmas
+pub mod ToldLemmas
 pub mod InstanceLemmas
 pub mod IdleLemmas

@@ -16,6 +16,7 @@ use Rattle.chart_table.specs.declared.asks.Ask.{Ask}
 use Rattle.chart_table.specs.declared.asks.Ask.TheVariants as ask
 use Rattle.chart_table.specs.declared.states.State.{State}
 use Rattle.chart_table.specs.declared.states.Cut.{Cut}
+use Rattle.chart_table.specs.declared.states.Told.{Told}
 use Rattle.chart_table.specs.Aims.{Aims}
 use Rattle.chart_table.specs.Leading.{Path, own_past}
 use Rattle.chart_table.specs.Branches.{OneOf, Extends, AnyExtends, read_as, meeting}
@@ -150,6 +151,23 @@ MeetsOne next bound k a j v = IsOf k (met_binds next bound a) j v
 -- for the ask of the cut-off phrase of a category, the instance extends an assignment that meets its values
 abbrev pub MeetsCut : Category → List (ℕ × Value) → ℕ → Cut → ℕ → List (ℕ × Value) → Type 0
 MeetsCut c bound k e j v = IsOf e.ask (within_binds c bound e) j v
+
+-- the heads are those of the rule that the values tell, where a category with them is met in the assignment
+abbrev pub IsTold : Setting → Rule → Category → List (ℕ × Value) → Told → Type 0
+IsTold s rule c bound t = HasHeads s rule (IsOf 0 (meeting t.values c.feats (bound ∷ []))) [] t.heads
+
+-- the one with this number tells what these values tell
+pub record IsTelling (told : List Told) (number : ℕ) (values : List (ℕ × Value)) : Type 0 where
+  pub one : Told
+  pub is : slice_get told number ≡ Some one
+  pub values_are : one.values ≡ values
+
+-- the later list has the cut-off phrases of the first and, for the ask with the number, these heads, and no others
+pub record HasCopies (number : ℕ) (heads before after : List Cut) : Type 0 where
+  pub kept : (j : ℕ) (values : List (ℕ × Value)) → HasCut before j values → HasCut after j values
+  pub new : (e : Cut) → OneOf heads e → HasCut after number e.values
+  pub only : (j : ℕ) (values : List (ℕ × Value)) → HasCut after j values
+      → HasCut before j values ⊎ ((j ≡ number) × ((e : Cut) × OneOf heads e × (e.values ≡ values)))
 
 -- the values are those of the rule's head in an instance in which it is cut off
 pub record IsRuleCut (s : Setting) (aim : Aims) (rule : Rule) (at : At) (j : ℕ) (head : List (ℕ × Value)) : Type 0 where

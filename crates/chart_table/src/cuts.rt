@@ -11,12 +11,16 @@ use crate::ends::{finished, has_values, is_instance, values_of_all};
 use crate::sameness::same_values;
 use crate::states::{Aim, Bound, Cut, State};
 use crate::steps::close;
+use crate::told::push_many_within;
 use codeco_terms::{Category, Element, Ground, Rule, Value};
 use derivation_trees::{Setting, under};
 use lists::List;
 use scopes::{Access, TestValues};
 use std::alloc::Global;
 use wiki_base::Memory;
+
+/// How many ways of being cut off are few: with more of them, what values tell is kept.
+const FEW: usize = 6;
 
 fn is_cut(cut: &Cut, number: usize, values: &[(u16, Value)]) -> bool
     ensures ask { IsTrue result → cut.now.ask ≡ number }
@@ -25,7 +29,7 @@ fn is_cut(cut: &Cut, number: usize, values: &[(u16, Value)]) -> bool
     cut.ask == number && same_values(cut.values.as_slice(), values)
 }
 
-fn has_cut(cuts: &[Cut], number: usize, values: &[(u16, Value)]) -> bool
+pub(crate) fn has_cut(cuts: &[Cut], number: usize, values: &[(u16, Value)]) -> bool
     ensures { result ≡ true → cutting.HasCut cuts.now number values.now }
 {
     for cut in cuts {
@@ -84,7 +88,7 @@ fn is_extended(
 }
 
 // Adds the cut-off phrase with these values.
-fn push_cut(number: usize, values: TestValues, cuts: &mut List<Cut>) -> Result<(), Memory>
+pub(crate) fn push_cut(number: usize, values: TestValues, cuts: &mut List<Cut>) -> Result<(), Memory>
     ensures { OnOk result (cutting.HasOneMore number values cuts.old cuts.new) }
 {
     cuts.push(Cut {
@@ -140,7 +144,7 @@ fn push_settled(
 }
 
 // Adds the heads of the instances that extend the assignments.
-fn push_heads(
+pub(crate) fn push_heads(
     alloc: Global,
     setting: &Setting<'_>,
     rule: &Rule,
@@ -344,7 +348,7 @@ fn push_cut_within(
 }
 
 // Adds the phrases of the rule whose next element, a category, is cut off in one of these ways.
-pub(crate) fn push_cuts_within(
+fn push_few_within(
     alloc: Global,
     setting: &Setting<'_>,
     rule: &Rule,
@@ -362,4 +366,26 @@ pub(crate) fn push_cuts_within(
         push_cut_within(alloc, setting, rule, plan, category, bound, cut, cuts)?;
     }
     Ok(())
+}
+
+// Adds the phrases of the rule whose next element, a category, is cut off in one of these ways.
+pub(crate) fn push_cuts_within(
+    alloc: Global,
+    setting: &Setting<'_>,
+    rule: &Rule,
+    plan: &Plan,
+    category: &Category,
+    bound: &[(u8, Value)],
+    within: &[Cut],
+    cuts: &mut List<Cut>,
+) -> Result<(), Memory>
+    requires { choosing.IsPlan setting.now rule.now plan.now }
+    ensures { OnOk result (cutting.HasHeads setting.now rule.now
+        (cutting.OneBefore within.now (cutting.MeetsCut category.now bound.now) (length within.now)) cuts.old cuts.new) }
+{
+    if within.len() > FEW {
+        push_many_within(alloc, setting, rule, plan, category, bound, within, cuts)
+    } else {
+        push_few_within(alloc, setting, rule, plan, category, bound, within, cuts)
+    }
 }

@@ -15,6 +15,7 @@ mod sizes;
 mod states;
 mod steps;
 mod table;
+mod told;
 
 pub use asks::Ask;
 pub use choices::{Plan, plan_for, plans_of};

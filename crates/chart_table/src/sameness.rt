@@ -1,10 +1,13 @@
-// Whether keys and ends of the table are the same.
-ghost use Rattle.std.specs.Prelude.{◌≡◌, ◌↔◌, IsTrue};
+// Whether keys and ends of the table are the same, and copies of values.
+ghost use Rattle.std.specs.Prelude.{◌≡◌, ◌↔◌, IfOk, IsTrue};
 ghost use Rattle.scopes.specs.declared.entries.Entry.TheVariants.{Opener, Weak, Strong};
 
 use crate::states::End;
 use codeco_terms::{Ground, Value};
-use scopes::Entry;
+use lists::List;
+use scopes::{Entry, TestValues};
+use std::alloc::Global;
+use wiki_base::Memory;
 
 fn same_pair(one: (u16, Value), other: (u16, Value)) -> bool
     ensures { IsTrue result ↔ one ≡ other }
@@ -92,4 +95,11 @@ pub(crate) fn same_end(one: &End, other: &End) -> bool
     one.place == other.place
         && same_values(one.values.as_slice(), other.values.as_slice())
         && same_entries(one.tail.as_slice(), other.tail.as_slice())
+}
+
+pub(crate) fn copy_values(alloc: Global, values: &[(u16, Value)]) -> Result<TestValues, Memory>
+    ensures { IfOk result (λ copied. copied ≡ values.now) }
+{
+    let copied = List::from_slice(alloc, values)?;
+    Ok(copied)
 }

@@ -37,6 +37,13 @@ pub(crate) struct Cut {
     pub(crate) values: TestValues,
 }
 
+// Values of a category that is cut off, and the heads of a rule that they tell, each with the number 0 for an ask.
+#[derive(Drop)]
+pub(crate) struct Told {
+    pub(crate) values: TestValues,
+    pub(crate) heads: List<Cut>,
+}
+
 // The place at which phrases are cut off, and what may be asked of them there. States are counted, for those who measure a
 // table; no answer depends on the count.
 #[derive(Drop)]

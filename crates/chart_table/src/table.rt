@@ -22,7 +22,7 @@ use crate::branches::{known_features, meet};
 use crate::choices::{Plan, count_at, features_at, plan_for};
 use crate::cuts::{push_cuts_here, push_cuts_within};
 use crate::ends::{are_bound, finished, finished_one};
-use crate::sameness::{same_end, same_entries, same_values};
+use crate::sameness::{copy_values, same_end, same_entries, same_values};
 use crate::states::{Aim, Bound, Cut, End, Feat, State};
 use crate::steps::{extended, push_ends, push_plain};
 use codeco_terms::{Category, Element, Rule, Value};
@@ -107,16 +107,6 @@ fn copy_end(alloc: Global, end: &End) -> Result<End, Memory>
         place: end.place,
         tail: copy_entries(alloc, end.tail.as_slice())?,
     })
-}
-
-fn copy_values(alloc: Global, values: &[(u16, Value)]) -> Result<TestValues, Memory>
-    ensures { IfOk result (λ copied. copied ≡ values.now) }
-{
-    let mut copied = TestValues::new(alloc);
-    for value in values {
-        copied.push(*value)?;
-    }
-    Ok(copied)
 }
 
 fn copy_entries(alloc: Global, entries: &[Entry]) -> Result<List<Entry>, Memory>

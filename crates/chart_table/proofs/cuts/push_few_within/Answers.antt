@@ -1,7 +1,7 @@
 use Rattle.std.proofs.Common.{arith}
 use Rattle.chart_table.specs.Cuts.{MeetsCut}
 use Rattle.chart_table.proofs.HeadLemmas.{before_none, before_turn, before_done}
-use Rattle.chart_table.proofs.cuts.push_cuts_within.Goals as goal
+use Rattle.chart_table.proofs.cuts.push_few_within.Goals as goal
 
 pub loop-cut-init : goal.loop-cut-init
 loop-cut-init c = before_none c.args.setting.now c.args.rule.now c.args.within.now (MeetsCut c.args.category.now c.args.bound.now) c.args.cuts.now

@@ -15,7 +15,8 @@ use Rattle.derivation_trees.specs.Derives.{At, Stand, run, begun, rule_with, fit
 use Rattle.derivation_trees.specs.Partial.{CutNode, stopped, entered, used_up, front, next_category, front_of, cut_end}
 use Rattle.chart_table.specs.declared.asks.Ask.{Ask}
 use Rattle.chart_table.specs.declared.asks.Ask.TheVariants as ask
-use Rattle.chart_table.specs.Leading.{Path, referents}
+use Rattle.chart_table.specs.Leading.{Path}
+use Rattle.scopes.specs.AccessList.{referents}
 use Rattle.chart_table.specs.Asks.{is_met, CutMeets, AskLeads}
 use Rattle.chart_table.proofs.RuleAsking.{RuleAsks}
 use Rattle.chart_table.proofs.PassLemmas.{if_some, if_true, both_true, stand_at, run_path, path_runs}

@@ -13,7 +13,8 @@ use Rattle.derivation_trees.specs.Derives.{At, rule_with, fits}
 use Rattle.chart_table.specs.declared.states.State.{State}
 use Rattle.chart_table.specs.declared.states.Cut.{Cut}
 use Rattle.chart_table.specs.declared.asks.Ask.{Ask}
-use Rattle.chart_table.specs.Leading.{Path, ElementLeads, own_past, referents}
+use Rattle.chart_table.specs.Leading.{Path, ElementLeads, own_past}
+use Rattle.scopes.specs.AccessList.{referents}
 use Rattle.chart_table.specs.Steps.{at_of, Covers}
 use Rattle.chart_table.specs.Ends.{CoversPath, LeadsFrom, AreSteps}
 use Rattle.chart_table.proofs.RuleAsking.{AskStops}

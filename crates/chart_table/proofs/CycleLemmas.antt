@@ -20,7 +20,7 @@ use Rattle.derivation_trees.specs.Partial.{sub_of}
 use Rattle.chart_table.specs.declared.states.State.{State}
 use Rattle.chart_table.specs.declared.states.End.{End}
 use Rattle.chart_table.specs.declared.table.Row.{Row}
-use Rattle.chart_table.specs.Leading.{referents}
+use Rattle.scopes.specs.AccessList.{referents}
 use Rattle.chart_table.specs.Branches.{known_features}
 use Rattle.chart_table.specs.Choices.{choices, choices_in, terms_of}
 use Rattle.chart_table.specs.Steps.{plain_steps, sub_steps, starting}

@@ -22,7 +22,8 @@ use Rattle.derivation_trees.specs.Instances.{value_under, term_value, under, fea
 use Rattle.derivation_trees.specs.Derives.{At, fits, same_where_both, rule_with, list_after, referent}
 use Rattle.chart_table.specs.declared.states.State.{State}
 use Rattle.chart_table.specs.declared.states.End.{End}
-use Rattle.chart_table.specs.Leading.{Leads, ElementLeads, Path, own_past, referents}
+use Rattle.chart_table.specs.Leading.{Leads, ElementLeads, Path, own_past}
+use Rattle.scopes.specs.AccessList.{referents}
 use Rattle.chart_table.proofs.RuleLeading.{closed_at}
 use Rattle.chart_table.specs.Branches.{OneOf, Extends, AnyExtends, meeting, closing, known_value, known_features}
 use Rattle.chart_table.specs.Steps.{at_of, Covers, placed, sub_steps, starting, plain_steps}

@@ -24,7 +24,8 @@ use Rattle.chart_table.specs.declared.states.State.{State}
 use Rattle.chart_table.specs.declared.states.Cut.{Cut}
 use Rattle.chart_table.specs.declared.asks.Ask.{Ask}
 use Rattle.chart_table.specs.declared.asks.Ask.TheVariants as ask
-use Rattle.chart_table.specs.Leading.{Path, referents}
+use Rattle.chart_table.specs.Leading.{Path}
+use Rattle.scopes.specs.AccessList.{referents}
 use Rattle.chart_table.specs.Branches.{OneOf, Extends, AnyExtends, known_features, meeting, closing}
 use Rattle.chart_table.specs.declared.choices.Plan.{Plan}
 use Rattle.chart_table.specs.Choices.{choices, choices_in, IsPlan}

@@ -24,7 +24,8 @@ use Rattle.derivation_trees.specs.Trees.{Node, Nodes, node, none, more}
 use Rattle.derivation_trees.specs.Settings.{Setting, matches_terminal, matches_preterminal}
 use Rattle.derivation_trees.specs.Instances.{value_under, under, tests_under, is_instance, own_values}
 use Rattle.derivation_trees.specs.Derives.{At, Stand, Phrase, pass, run, pass_child, pass_finding, is_found, moved, referent, reference_tests, phrase_of, phrases_of, phrase, begun, ended, is_none_left, rule_with, fits, list_after}
-use Rattle.chart_table.specs.Leading.{Leads, referents}
+use Rattle.chart_table.specs.Leading.{Leads}
+use Rattle.scopes.specs.AccessList.{referents}
 use Rattle.chart_table.proofs.PassLemmas.{if_some, unless_some, if_true, if_false}
 
 pub referents-append : (xs ys : List Entry) → referents (xs ++ ys) ≡ referents xs ++ referents ys

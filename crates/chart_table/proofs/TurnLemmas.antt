@@ -19,7 +19,7 @@ use Rattle.scopes.specs.declared.entries.Entry.{Entry}
 use Rattle.derivation_trees.specs.Settings.{Setting}
 use Rattle.chart_table.specs.declared.states.State.{State}
 use Rattle.chart_table.specs.declared.states.End.{End}
-use Rattle.chart_table.specs.Leading.{referents}
+use Rattle.scopes.specs.AccessList.{referents}
 use Rattle.chart_table.specs.Ends.{HasMore, HasFinished, finished, finished_one, as_terms, AreSteps, IsStep}
 use Rattle.chart_table.proofs.OpenerLemmas.{referents-append}
 use Rattle.chart_table.proofs.EndLemmas.{more_same, more_then, finished_more, steps_more}

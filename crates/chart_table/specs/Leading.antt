@@ -60,10 +60,3 @@ abbrev pub Path : Setting → List (ℕ × Value) → List (ℕ × Value) → Li
 Path s values own [] at after = (at ≡ after)
 Path s values own (e ∷ es) at after =
     (between : At) × ElementLeads s values own e at between × Path s values (own_past s e own) es between after
-
--- the entries of a list without the openers
-abbrev pub referents : List Entry → List Entry
-referents [] = []
-referents (entry.Opener ∷ rest) = referents rest
-referents (entry.Weak referent pos ∷ rest) = entry.Weak referent pos ∷ referents rest
-referents (entry.Strong referent pos ∷ rest) = entry.Strong referent pos ∷ referents rest

@@ -10,7 +10,7 @@ ghost use Rattle.scopes.specs.declared.entries.Entry.{Entry as OneEntry};
 ghost use Rattle.scopes.specs.AccessList as access;
 ghost use Rattle.derivation_trees.specs.Instances as instances;
 ghost use Rattle.derivation_trees.specs.Derives as derives;
-ghost use Rattle.chart_table.specs.Leading.{referents};
+ghost use Rattle.scopes.specs.AccessList.{referents};
 ghost use Rattle.chart_table.specs.Branches as branches;
 ghost use Rattle.chart_table.specs.Choices as choosing;
 ghost use Rattle.chart_table.specs.Steps as steps;
@@ -142,6 +142,34 @@ pub fn tail_of(
     }
 }
 
+// What has been added to the list since it was the one before.
+fn added_since(alloc: Global, before: &Access, list: &Access) -> Result<Access, Memory>
+    ensures { IfOk result (λ added. added ≡ drop (length before.now) list.now) }
+{
+    let first = before.len();
+    if first > list.len() {
+        return Ok(Access::empty(alloc));
+    }
+    list.suffix(first)
+}
+
+// What is left of what a phrase of the rule has added to the list, in the memory of the list.
+fn left_since(
+    alloc: Global,
+    rule: &Rule,
+    before: &Access,
+    list: &Access,
+) -> Result<Access, Memory>
+    ensures { IfOk result (λ tail. tail ≡ ending.left_of rule.now (drop (length before.now) list.now)) }
+{
+    let added = added_since(alloc, before, list)?;
+    if rule.closing {
+        added.closed()
+    } else {
+        Ok(added)
+    }
+}
+
 fn end_with(
     alloc: Global,
     rule: &Rule,
@@ -155,7 +183,7 @@ fn end_with(
     Ok(End {
         values: head.values,
         place: state.place,
-        tail: tail_of(alloc, rule, before, &state.list)?,
+        tail: left_since(alloc, rule, before, &state.list)?,
     })
 }
 

@@ -94,7 +94,7 @@ pub(crate) fn same_end(one: &End, other: &End) -> bool
 {
     one.place == other.place
         && same_values(one.values.as_slice(), other.values.as_slice())
-        && same_entries(one.tail.as_slice(), other.tail.as_slice())
+        && one.tail.is_same(&other.tail)
 }
 
 pub(crate) fn copy_values(alloc: Global, values: &[(u16, Value)]) -> Result<TestValues, Memory>

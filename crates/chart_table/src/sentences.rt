@@ -19,6 +19,7 @@ use codeco_checked::{CheckedGrammar, FIRST_PLAIN};
 use derivation_trees::{Setting, readings_of};
 use lexicon::Lexicon;
 use lists::List;
+use scopes::Access;
 use std::alloc::Global;
 use std::cell::Cell;
 use wiki_base::{Memory, Tokens};
@@ -128,7 +129,7 @@ fn text_row(
 {
     let mut rows = List::new(alloc);
     let known = List::new(alloc);
-    let list = List::new(alloc);
+    let list = Access::empty(alloc);
     let number = row_of(
         alloc,
         setting,

@@ -7,6 +7,7 @@ use crate::table::{Row, row_of};
 use codeco_checked::FIRST_PLAIN;
 use derivation_trees::Setting;
 use lists::List;
+use scopes::Access;
 use std::alloc::Global;
 use std::cell::Cell;
 use wiki_base::Memory;
@@ -37,7 +38,7 @@ pub fn table_size(
     let plans = plans_of(alloc, setting.grammar)?;
     let mut rows = List::new(alloc);
     let known = List::new(alloc);
-    let list = List::new(alloc);
+    let list = Access::empty(alloc);
     row_of(
         alloc,
         setting,

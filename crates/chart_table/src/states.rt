@@ -3,7 +3,7 @@
 use crate::asks::Ask;
 use codeco_terms::{Term, Value};
 use lists::List;
-use scopes::{Access, Entry, TestValues};
+use scopes::{Access, TestValues};
 use std::cell::Cell;
 use std::marker::Model;
 
@@ -27,7 +27,7 @@ pub(crate) struct State {
 pub(crate) struct End {
     pub(crate) values: TestValues,
     pub(crate) place: u16,
-    pub(crate) tail: List<Entry>,
+    pub(crate) tail: Access,
 }
 
 // A cut-off phrase: the number of an ask that its next element meets, and the values of the features that the head writes.

@@ -639,7 +639,7 @@ fn push_end(
     if !meet(&mut binds, end.values.as_slice(), category.feats.as_slice())? {
         return Ok(());
     }
-    let list = extended(&state.list, end.tail.as_slice())?;
+    let list = state.list.join(&end.tail)?;
     out.push(State {
         binds,
         place: end.place,

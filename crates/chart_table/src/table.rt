@@ -5,7 +5,7 @@ ghost use Rattle.codeco_checked.specs.Occurrences.{positions};
 ghost use Rattle.scopes.specs.declared.entries.Entry.{Entry as OneEntry};
 ghost use Rattle.derivation_trees.specs.Instances as instances;
 ghost use Rattle.derivation_trees.specs.Stands.{is_sub};
-ghost use Rattle.chart_table.specs.Leading.{referents};
+ghost use Rattle.scopes.specs.AccessList.{referents};
 ghost use Rattle.chart_table.specs.Branches as branches;
 ghost use Rattle.chart_table.specs.Choices as choosing;
 ghost use Rattle.chart_table.specs.Steps as steps;
@@ -22,7 +22,7 @@ use crate::branches::{known_features, meet};
 use crate::choices::{Plan, count_at, features_at, plan_for};
 use crate::cuts::{push_cuts_here, push_cuts_within};
 use crate::ends::{are_bound, finished, finished_one};
-use crate::sameness::{copy_values, same_end, same_entries, same_values};
+use crate::sameness::{copy_values, same_end, same_values};
 use crate::states::{Aim, Bound, Cut, End, Feat, State};
 use crate::steps::{extended, push_ends, push_plain};
 use codeco_terms::{Category, Element, Rule, Value};
@@ -39,12 +39,12 @@ pub struct Row {
     pub(crate) name: u16,
     pub(crate) known: List<(u16, Value)>,
     pub(crate) place: u16,
-    pub(crate) list: List<Entry>,
+    pub(crate) list: Access,
     pub(crate) ends: List<End>,
     pub(crate) cuts: List<Cut>,
 }
 
-fn is_row(row: &Row, name: u16, known: &[(u16, Value)], place: u16, list: &[Entry]) -> bool
+fn is_row(row: &Row, name: u16, known: &[(u16, Value)], place: u16, list: &Access) -> bool
     ensures name { result ≡ true → row.now.name ≡ name }
     ensures known { result ≡ true → row.now.known ≡ known.now }
     ensures place { result ≡ true → row.now.place ≡ place }
@@ -53,7 +53,7 @@ fn is_row(row: &Row, name: u16, known: &[(u16, Value)], place: u16, list: &[Entr
     row.place == place
         && row.name == name
         && same_values(row.known.as_slice(), known)
-        && same_entries(row.list.as_slice(), list)
+        && row.list.is_same(list)
 }
 
 // The number of the row, if it is there. The newest rows are looked at first.
@@ -62,7 +62,7 @@ fn find(
     name: u16,
     known: &[(u16, Value)],
     place: u16,
-    list: &[Entry],
+    list: &Access,
 ) -> Option<usize>
     ensures { IfSome result (λ number. tables.IsFound rows.now number name known.now place list.now) }
 {
@@ -105,18 +105,8 @@ fn copy_end(alloc: Global, end: &End) -> Result<End, Memory>
     Ok(End {
         values: copy_values(alloc, end.values.as_slice())?,
         place: end.place,
-        tail: copy_entries(alloc, end.tail.as_slice())?,
+        tail: end.tail.share()?,
     })
-}
-
-fn copy_entries(alloc: Global, entries: &[Entry]) -> Result<List<Entry>, Memory>
-    ensures { IfOk result (λ copied. copied ≡ entries.now) }
-{
-    let mut copied = List::new(alloc);
-    for entry in entries {
-        copied.push(entry.copy())?;
-    }
-    Ok(copied)
 }
 
 // Adds those of the ends that aren't there yet.
@@ -266,7 +256,7 @@ pub(crate) fn row_of(
     name: u16,
     known: List<(u16, Value)>,
     place: u16,
-    list: List<Entry>,
+    list: Access,
 ) -> Result<usize, Memory>
     requires rows { tables.AreRows setting.now aim.now rows.old }
     requires plans { choosing.ArePlans setting.now plans.now }
@@ -278,11 +268,10 @@ pub(crate) fn row_of(
         name,
         known.as_slice(),
         place,
-        list.as_slice(),
+        &list,
     ) {
         return Ok(number);
     }
-    let start = access_of(alloc, list.as_slice())?;
     let mut cuts = List::new(alloc);
     let ends = category_ends(
         alloc,
@@ -294,7 +283,7 @@ pub(crate) fn row_of(
         name,
         known.as_slice(),
         place,
-        &start,
+        &list,
         &mut cuts,
     )?;
     let row = Row {
@@ -603,7 +592,7 @@ fn push_category(
 {
     let deeper = depth.checked_sub(1).ok_or(Memory)?;
     let known = known_features(alloc, state.binds.as_slice(), category.feats.as_slice())?;
-    let list = referents_of(alloc, &state.list)?;
+    let list = state.list.referents()?;
     let row = row_of(
         alloc,
         setting,

@@ -22,7 +22,7 @@ use Rattle.derivations.specs.Enumeration.{opened, may_begin}
 use Rattle.derivations.specs.Enumeration as enumeration
 use Rattle.derivations.proofs.Members.{Among, among_left, among_right, among_map}
 use Rattle.derivations.proofs.SoundLemmas.{Mapped, from_map, either_among}
-use Rattle.chart_table.specs.Leading.{referents}
+use Rattle.scopes.specs.AccessList.{referents}
 use Rattle.chart_table.proofs.RuleLeading.{RuleLeads}
 use Rattle.chart_table.specs.Branches.{OneOf}
 use Rattle.chart_table.specs.Ends.{left_of}

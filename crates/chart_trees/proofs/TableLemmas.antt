@@ -17,7 +17,7 @@ use Rattle.derivation_trees.specs.Stands.{is_sub}
 use Rattle.codeco_terms.specs.declared.rules.Rule.{Rule}
 use Rattle.chart_table.proofs.EndLemmas.{number_of}
 use Rattle.derivations.specs.Enumeration as enumeration
-use Rattle.chart_table.specs.Leading.{referents}
+use Rattle.scopes.specs.AccessList.{referents}
 use Rattle.chart_table.specs.Table.{IsRow as IsEndsRow, no_asks}
 use Rattle.chart_table.proofs.OpenerLemmas.{referents-twice}
 use Rattle.chart_trees.specs.declared.table.Best.{Best}

@@ -1,4 +1,4 @@
-use Rattle.std.proofs.Common.{◌<◌, None, length, ap, ◌∙◌, sym, subst, arith, rules}
+use Rattle.std.proofs.Common.{◌<◌, None, length, refl, ap, ◌∙◌, sym, subst, arith, rules}
 use Rattle.std.proofs.lemmas.Option.{slice_get_within}
 use Rattle.derivation_trees.proofs.StandLemmas.{not_sub}
 use Rattle.chart_table.proofs.TurnLemmas.{steps_turn, steps_done}
@@ -46,7 +46,7 @@ category_ends-returns-clause-cuts t c =
 pub row_of-returns-in-Some-clause-row : goal.row_of-returns-in-Some-clause-row
 row_of-returns-in-Some-clause-row t c =
     row_found c.args.setting.now c.args.aim.now c.args.rows.now c.as_slice.result.now c.in-Some.number c.args.name c.args.known c.as_slice-2.result.now
-    c.args.place c.args.list c.as_slice-3.result.now c.as_slice.ensures c.as_slice-2.ensures c.as_slice-3.ensures c.requires.rows c.in-Some.ensures
+    c.args.place c.args.list c.args.list c.as_slice.ensures c.as_slice-2.ensures refl c.requires.rows c.in-Some.ensures
 
 pub row_of-returns-clause-rows : goal.row_of-returns-clause-rows
 row_of-returns-clause-rows t c =
@@ -58,8 +58,7 @@ row_of-returns-clause-rows t c =
       list = c.args.list;
       ends = c.in_ok-ends.ends;
       cuts = c.category_ends.new.cuts;
-    }) c.as_slice-5.result.now c.in_ok-start.start c.in_ok-number.ensures.rows c.as_slice-5.ensures
-    (c.in_ok-start.ensures ∙ c.as_slice-4.ensures) c.in_ok-ends.ensures.rows c.in_ok-ends.ensures.ends c.in_ok-ends.ensures.cuts
+    }) c.as_slice-3.result.now c.args.list c.in_ok-number.ensures.rows c.as_slice-3.ensures refl c.in_ok-ends.ensures.rows c.in_ok-ends.ensures.ends c.in_ok-ends.ensures.cuts
 
 pub row_of-returns-clause-row : goal.row_of-returns-clause-row
 row_of-returns-clause-row t c =
@@ -71,8 +70,8 @@ row_of-returns-clause-row t c =
       list = c.args.list;
       ends = c.in_ok-ends.ends;
       cuts = c.category_ends.new.cuts;
-    }) c.in_ok-number.number c.as_slice-5.result.now c.in_ok-start.start c.in_ok-number.ensures.rows c.in_ok-number.ensures.number
-    c.as_slice-5.ensures (c.in_ok-start.ensures ∙ c.as_slice-4.ensures) c.in_ok-ends.ensures.ends c.in_ok-ends.ensures.cuts
+    }) c.in_ok-number.number c.as_slice-3.result.now c.args.list c.in_ok-number.ensures.rows c.in_ok-number.ensures.number
+    c.as_slice-3.ensures refl c.in_ok-ends.ensures.ends c.in_ok-ends.ensures.cuts
 
 pub push_rule-returns-clause-ends : goal.push_rule-returns-clause-ends
 push_rule-returns-clause-ends t c =

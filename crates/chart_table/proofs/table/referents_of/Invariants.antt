@@ -1,5 +1,5 @@
 use Rattle.std.proofs.Common.{◌≡◌, take}
-use Rattle.chart_table.specs.Leading.{referents}
+use Rattle.scopes.specs.AccessList.{referents}
 use Rattle.chart_table.proofs.table.referents_of.Given as goal
 
 abbrev pub invariant-loop-place : goal.invariant-loop-place

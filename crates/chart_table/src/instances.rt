@@ -13,7 +13,8 @@ use crate::ends::{as_terms, values_of_all};
 use crate::sentences::DEEPEST;
 use crate::states::{Aim, Bound, State};
 use crate::steps::close;
-use crate::table::{Row, last_states, start_states};
+use crate::rows::Rows;
+use crate::table::{last_states, start_states};
 use codeco_checked::NUMBERS;
 use codeco_terms::{Rule, Value};
 use derivation_trees::{Setting, may_start};
@@ -125,7 +126,7 @@ pub fn leading_instances(
     alloc: Global,
     setting: &Setting<'_>,
     plans: &[Plan],
-    rows: &mut List<Row>,
+    rows: &mut Rows,
     rule: &Rule,
     plan: &Plan,
     known: &[(u16, Value)],

@@ -14,6 +14,7 @@ ghost use Rattle.chart_table.specs.Table as tables;
 use crate::asks::Ask;
 use crate::choices::{Plan, plans_of};
 use crate::states::{Aim, Cut, End};
+use crate::rows::Rows;
 use crate::table::{Row, row_of, token_count};
 use codeco_checked::{CheckedGrammar, FIRST_PLAIN};
 use derivation_trees::{Setting, readings_of};
@@ -127,7 +128,7 @@ fn text_row(
     requires { choosing.ArePlans setting.now plans.now }
     ensures { IfOk result (tables.IsTextRow setting.now aim.now) }
 {
-    let mut rows = List::new(alloc);
+    let mut rows = Rows::new(alloc);
     let known = List::new(alloc);
     let list = Access::empty(alloc);
     let number = row_of(

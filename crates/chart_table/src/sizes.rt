@@ -3,6 +3,7 @@ use crate::asks::Ask;
 use crate::choices::plans_of;
 use crate::sentences::DEEPEST;
 use crate::states::Aim;
+use crate::rows::Rows;
 use crate::table::{Row, row_of};
 use codeco_checked::FIRST_PLAIN;
 use derivation_trees::Setting;
@@ -36,7 +37,7 @@ pub fn table_size(
         made: &made,
     };
     let plans = plans_of(alloc, setting.grammar)?;
-    let mut rows = List::new(alloc);
+    let mut rows = Rows::new(alloc);
     let known = List::new(alloc);
     let list = Access::empty(alloc);
     row_of(

@@ -22,6 +22,7 @@ use crate::branches::{known_features, meet};
 use crate::choices::{Plan, count_at, features_at, plan_for};
 use crate::cuts::{push_cuts_here, push_cuts_within};
 use crate::ends::{are_bound, finished, finished_one};
+use crate::rows::Rows;
 use crate::sameness::{copy_values, same_end, same_values};
 use crate::states::{Aim, Bound, Cut, End, Feat, State};
 use crate::steps::{extended, push_ends, push_plain};
@@ -42,6 +43,7 @@ pub struct Row {
     pub(crate) list: Access,
     pub(crate) ends: List<End>,
     pub(crate) cuts: List<Cut>,
+    pub(crate) older: usize,
 }
 
 fn is_row(row: &Row, name: u16, known: &[(u16, Value)], place: u16, list: &Access) -> bool
@@ -56,9 +58,11 @@ fn is_row(row: &Row, name: u16, known: &[(u16, Value)], place: u16, list: &Acces
         && row.list.is_same(list)
 }
 
-// The number of the row, if it is there. The newest rows are looked at first.
+// The number of the row, if it is there, by the rows at its place: the newest first, whose number is one less than is given, and
+// each tells the next older one.
 fn find(
     rows: &[Row],
+    newest: usize,
     name: u16,
     known: &[(u16, Value)],
     place: u16,
@@ -66,12 +70,13 @@ fn find(
 ) -> Option<usize>
     ensures { IfSome result (λ number. tables.IsFound rows.now number name known.now place list.now) }
 {
-    let mut number = rows.len();
-    while number > 0 {
-        number -= 1;
+    let mut next = newest;
+    while next > 0 && next <= rows.len() {
+        let number = next - 1;
         if is_row(&rows[number], name, known, place, list) {
             return Some(number);
         }
+        next = rows[number].older.min(number);
     }
     None
 }
@@ -227,16 +232,6 @@ pub fn access_of(alloc: Global, entries: &[Entry]) -> Result<Access, Memory>
     extended(&empty, entries)
 }
 
-// Adds the row, and gives its number.
-fn push_new_row(rows: &mut List<Row>, row: Row) -> Result<usize, Memory>
-    ensures rows { OnOk result (rows.new ≡ rows.old ++ row ∷ []) }
-    ensures number { IfOk result (λ number. number ≡ length rows.old) }
-{
-    let number = rows.len();
-    rows.push(row)?;
-    Ok(number)
-}
-
 // How many tokens there are.
 pub(crate) fn token_count(setting: &Setting<'_>) -> usize
     ensures { result ≡ length setting.now.tokens }
@@ -251,7 +246,7 @@ pub(crate) fn row_of(
     setting: &Setting<'_>,
     aim: &Aim<'_>,
     plans: &[Plan],
-    rows: &mut List<Row>,
+    rows: &mut Rows,
     depth: u32,
     name: u16,
     known: List<(u16, Value)>,
@@ -265,6 +260,7 @@ pub(crate) fn row_of(
 {
     if let Some(number) = find(
         rows.as_slice(),
+        rows.newest_at(place),
         name,
         known.as_slice(),
         place,
@@ -293,8 +289,9 @@ pub(crate) fn row_of(
         list,
         ends,
         cuts,
+        older: rows.newest_at(place),
     };
-    let number = push_new_row(rows, row)?;
+    let number = rows.push(row)?;
     Ok(number)
 }
 
@@ -305,7 +302,7 @@ fn category_ends(
     setting: &Setting<'_>,
     aim: &Aim<'_>,
     plans: &[Plan],
-    rows: &mut List<Row>,
+    rows: &mut Rows,
     depth: u32,
     name: u16,
     known: &[(u16, Value)],
@@ -349,7 +346,7 @@ fn push_named(
     setting: &Setting<'_>,
     aim: &Aim<'_>,
     plans: &[Plan],
-    rows: &mut List<Row>,
+    rows: &mut Rows,
     depth: u32,
     name: u16,
     rule: &Rule,
@@ -384,7 +381,7 @@ fn push_rule(
     setting: &Setting<'_>,
     aim: &Aim<'_>,
     plans: &[Plan],
-    rows: &mut List<Row>,
+    rows: &mut Rows,
     depth: u32,
     rule: &Rule,
     plan: &Plan,
@@ -434,7 +431,7 @@ pub(crate) fn last_states(
     setting: &Setting<'_>,
     aim: &Aim<'_>,
     plans: &[Plan],
-    rows: &mut List<Row>,
+    rows: &mut Rows,
     depth: u32,
     rule: &Rule,
     plan: &Plan,
@@ -493,7 +490,7 @@ fn next_states(
     setting: &Setting<'_>,
     aim: &Aim<'_>,
     plans: &[Plan],
-    rows: &mut List<Row>,
+    rows: &mut Rows,
     depth: u32,
     rule: &Rule,
     plan: &Plan,
@@ -529,7 +526,7 @@ fn push_state(
     setting: &Setting<'_>,
     aim: &Aim<'_>,
     plans: &[Plan],
-    rows: &mut List<Row>,
+    rows: &mut Rows,
     depth: u32,
     rule: &Rule,
     plan: &Plan,
@@ -571,7 +568,7 @@ fn push_category(
     setting: &Setting<'_>,
     aim: &Aim<'_>,
     plans: &[Plan],
-    rows: &mut List<Row>,
+    rows: &mut Rows,
     depth: u32,
     rule: &Rule,
     plan: &Plan,

@@ -50,7 +50,7 @@ row_of-returns-in-Some-clause-row t c =
 
 pub row_of-returns-clause-rows : goal.row_of-returns-clause-rows
 row_of-returns-clause-rows t c =
-    rows_returned c.args.setting.now c.args.aim.now c.category_ends.new.rows c.push_new_row.new.rows
+    rows_returned c.args.setting.now c.args.aim.now c.category_ends.new.rows c.push.new.self
     (record {
       name = c.args.name;
       known = c.args.known;
@@ -58,11 +58,12 @@ row_of-returns-clause-rows t c =
       list = c.args.list;
       ends = c.in_ok-ends.ends;
       cuts = c.category_ends.new.cuts;
+      older = c.newest_at-2.result;
     }) c.as_slice-3.result.now c.args.list c.in_ok-number.ensures.rows c.as_slice-3.ensures refl c.in_ok-ends.ensures.rows c.in_ok-ends.ensures.ends c.in_ok-ends.ensures.cuts
 
 pub row_of-returns-clause-row : goal.row_of-returns-clause-row
 row_of-returns-clause-row t c =
-    row_returned c.args.setting.now c.args.aim.now c.category_ends.new.rows c.push_new_row.new.rows
+    row_returned c.args.setting.now c.args.aim.now c.category_ends.new.rows c.push.new.self
     (record {
       name = c.args.name;
       known = c.args.known;
@@ -70,6 +71,7 @@ row_of-returns-clause-row t c =
       list = c.args.list;
       ends = c.in_ok-ends.ends;
       cuts = c.category_ends.new.cuts;
+      older = c.newest_at-2.result;
     }) c.in_ok-number.number c.as_slice-3.result.now c.args.list c.in_ok-number.ensures.rows c.in_ok-number.ensures.number
     c.as_slice-3.ensures refl c.in_ok-ends.ensures.ends c.in_ok-ends.ensures.cuts
 

@@ -4,6 +4,6 @@ use Rattle.chart_table.proofs.table.find.Goals as goal
 
 pub returns-then-is_row : goal.returns-then-is_row
 returns-then-is_row c =
-    found_here c.args.rows.now (c.loop-number.number - 1) c.index-rows-number.result c.args.name c.args.known.now c.args.place c.args.list.now (omega arith)
+    found_here c.args.rows.now (c.loop-next.next - 1) c.index-rows-number.result c.args.name c.args.known.now c.args.place c.args.list.now (omega arith)
     c.index-rows-number.is (c.is_row.ensures.name c.if-is_row.true) (c.is_row.ensures.known c.if-is_row.true) (c.is_row.ensures.place c.if-is_row.true)
     (c.is_row.ensures.list c.if-is_row.true)

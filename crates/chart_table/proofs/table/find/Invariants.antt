@@ -1,8 +1,4 @@
-use Rattle.std.proofs.Common.{◌≤◌, length}
 use Rattle.chart_table.proofs.table.find.Given as goal
 
-abbrev pub decreases-loop-number : goal.decreases-loop-number
-decreases-loop-number l = l.number
-
-abbrev pub invariant-loop-number : goal.invariant-loop-number
-invariant-loop-number l = l.number ≤ length l.rows
+abbrev pub decreases-loop-next : goal.decreases-loop-next
+decreases-loop-next l = l.next

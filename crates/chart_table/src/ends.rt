@@ -79,69 +79,6 @@ pub(crate) fn has_values(values: &[(u8, Value)], bound: &[(u8, Value)]) -> bool
     bound.iter().all(|p| value_under(values, p.0).is(p.1))
 }
 
-fn push_strong(entry: &Entry, out: &mut List<Entry>) -> Result<(), Memory>
-    ensures { OnOk result (out.new ≡ out.old ++ access.strong_referents (entry.now ∷ [])) }
-{
-    match entry {
-        Entry::Strong(..) => out.push(entry.copy()),
-        _ => Ok(()),
-    }
-}
-
-fn push_strong_all(entries: &[Entry], out: &mut List<Entry>) -> Result<(), Memory>
-    ensures { OnOk result (out.new ≡ out.old ++ access.strong_referents entries.now) }
-{
-    for entry in entries {
-        push_strong(entry, out)?;
-    }
-    Ok(())
-}
-
-// The entries that closing leaves of these.
-fn closed(alloc: Global, entries: &[Entry]) -> Result<List<Entry>, Memory>
-    ensures { IfOk result (λ left. left ≡ access.closed entries.now) }
-{
-    let mut left = List::new(alloc);
-    let mut rest = entries;
-    while let [entry, later @ ..] = rest {
-        rest = later;
-        if let Entry::Opener = entry {
-            push_strong_all(later, &mut left)?;
-            return Ok(left);
-        }
-        left.push(entry.copy())?;
-    }
-    Ok(left)
-}
-
-// The entries after so many.
-fn entries_from(alloc: Global, list: &Access, first: usize) -> Result<List<Entry>, Memory>
-    ensures { IfOk result (λ entries. entries ≡ drop first list.now) }
-{
-    let mut entries = List::new(alloc);
-    for place in first..list.len() {
-        entries.push(list.get(place).copy())?;
-    }
-    Ok(entries)
-}
-
-/// What is left of what a phrase of the rule has added to the list.
-pub fn tail_of(
-    alloc: Global,
-    rule: &Rule,
-    before: &Access,
-    list: &Access,
-) -> Result<List<Entry>, Memory>
-    ensures { IfOk result (λ tail. tail ≡ ending.left_of rule.now (drop (length before.now) list.now)) }
-{
-    let added = entries_from(alloc, list, before.len())?;
-    if rule.closing {
-        closed(alloc, added.as_slice())
-    } else {
-        Ok(added)
-    }
-}
-
 // What has been added to the list since it was the one before.
 fn added_since(alloc: Global, before: &Access, list: &Access) -> Result<Access, Memory>
     ensures { IfOk result (λ added. added ≡ drop (length before.now) list.now) }
@@ -153,8 +90,8 @@ fn added_since(alloc: Global, before: &Access, list: &Access) -> Result<Access, 
     list.suffix(first)
 }
 
-// What is left of what a phrase of the rule has added to the list, in the memory of the list.
-fn left_since(
+/// What is left of what a phrase of the rule has added to the list, in the memory of the list.
+pub fn tail_of(
     alloc: Global,
     rule: &Rule,
     before: &Access,
@@ -183,7 +120,7 @@ fn end_with(
     Ok(End {
         values: head.values,
         place: state.place,
-        tail: left_since(alloc, rule, before, &state.list)?,
+        tail: tail_of(alloc, rule, before, &state.list)?,
     })
 }
 

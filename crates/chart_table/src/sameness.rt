@@ -1,11 +1,10 @@
 // Whether keys and ends of the table are the same, and copies of values.
 ghost use Rattle.std.specs.Prelude.{◌≡◌, ◌↔◌, IfOk, IsTrue};
-ghost use Rattle.scopes.specs.declared.entries.Entry.TheVariants.{Opener, Weak, Strong};
 
 use crate::states::End;
-use codeco_terms::{Ground, Value};
+use codeco_terms::Value;
 use lists::List;
-use scopes::{Entry, TestValues};
+use scopes::TestValues;
 use std::alloc::Global;
 use wiki_base::Memory;
 
@@ -24,64 +23,6 @@ pub fn same_values(values: &[(u16, Value)], others: &[(u16, Value)]) -> bool
     }
     for (place, value) in values.iter().enumerate() {
         if !same_pair(*value, others[place]) {
-            return false;
-        }
-    }
-    true
-}
-
-fn same_ground(one: &Ground, other: &Ground) -> bool
-    ensures { IsTrue result ↔ one.now ≡ other.now }
-{
-    one.name == other.name && same_values(one.vals.as_slice(), other.vals.as_slice())
-}
-
-fn is_weak(entry: &Entry, referent: &Ground, pos: u16) -> bool
-    ensures { IsTrue result ↔ entry.now ≡ Weak referent.now pos }
-{
-    match entry {
-        Entry::Weak(other, place) => *place == pos && same_ground(other, referent),
-        _ => false,
-    }
-}
-
-fn is_strong(entry: &Entry, referent: &Ground, pos: u16) -> bool
-    ensures { IsTrue result ↔ entry.now ≡ Strong referent.now pos }
-{
-    match entry {
-        Entry::Strong(other, place) => *place == pos && same_ground(other, referent),
-        _ => false,
-    }
-}
-
-fn is_opener(entry: &Entry) -> bool
-    ensures { IsTrue result ↔ entry.now ≡ Opener }
-{
-    match entry {
-        Entry::Opener => true,
-        _ => false,
-    }
-}
-
-fn same_entry(one: &Entry, other: &Entry) -> bool
-    ensures { IsTrue result ↔ one.now ≡ other.now }
-{
-    match other {
-        Entry::Opener => is_opener(one),
-        Entry::Weak(referent, pos) => is_weak(one, referent, *pos),
-        Entry::Strong(referent, pos) => is_strong(one, referent, *pos),
-    }
-}
-
-/// Whether the entries are the same, in the same order.
-pub fn same_entries(entries: &[Entry], others: &[Entry]) -> bool
-    ensures { IsTrue result ↔ entries.now ≡ others.now }
-{
-    if entries.len() != others.len() {
-        return false;
-    }
-    for (place, entry) in entries.iter().enumerate() {
-        if !same_entry(entry, &others[place]) {
             return false;
         }
     }

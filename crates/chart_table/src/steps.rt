@@ -605,27 +605,6 @@ pub(crate) fn push_plain(
     }
 }
 
-fn push_entry(list: &Access, entry: &Entry) -> Result<Access, Memory>
-    ensures { IfOk result (λ after. after ≡ list.now ++ entry.now ∷ []) }
-{
-    match entry {
-        Entry::Opener => list.push_opener(),
-        Entry::Weak(ground, pos) => list.refer(ground.copy(), *pos, false),
-        Entry::Strong(ground, pos) => list.refer(ground.copy(), *pos, true),
-    }
-}
-
-/// The list with the entries at its end.
-pub fn extended(list: &Access, entries: &[Entry]) -> Result<Access, Memory>
-    ensures { IfOk result (λ after. after ≡ list.now ++ entries.now) }
-{
-    let mut after = list.share()?;
-    for entry in entries {
-        after = push_entry(&after, entry)?;
-    }
-    Ok(after)
-}
-
 fn push_end(
     alloc: Global,
     category: &Category,

@@ -25,7 +25,7 @@ use crate::ends::{are_bound, finished, finished_one};
 use crate::rows::Rows;
 use crate::sameness::{copy_values, same_end, same_values};
 use crate::states::{Aim, Bound, Cut, End, Feat, State};
-use crate::steps::{extended, push_ends, push_plain};
+use crate::steps::{push_ends, push_plain};
 use codeco_terms::{Category, Element, Rule, Value};
 use derivation_trees::{Setting, may_start};
 use lists::List;
@@ -184,26 +184,6 @@ fn add_count(number: u16, count: usize) -> Result<u16, Memory>
     }
 }
 
-fn push_referent(entry: &Entry, out: &mut List<Entry>) -> Result<(), Memory>
-    ensures { OnOk result (out.new ≡ out.old ++ referents (entry.now ∷ [])) }
-{
-    match entry {
-        Entry::Opener => Ok(()),
-        _ => out.push(entry.copy()),
-    }
-}
-
-/// The entries of the list that are no openers.
-pub fn referents_of(alloc: Global, list: &Access) -> Result<List<Entry>, Memory>
-    ensures { IfOk result (λ entries. entries ≡ referents list.now) }
-{
-    let mut entries = List::new(alloc);
-    for place in 0..list.len() {
-        push_referent(list.get(place), &mut entries)?;
-    }
-    Ok(entries)
-}
-
 // The states at the start of a rule.
 pub(crate) fn start_states(
     alloc: Global,
@@ -222,14 +202,6 @@ pub(crate) fn start_states(
     let list = list.share()?;
     states.push(State { binds, place, list })?;
     Ok(states)
-}
-
-/// The list of the entries.
-pub fn access_of(alloc: Global, entries: &[Entry]) -> Result<Access, Memory>
-    ensures { IfOk result (λ access. access ≡ entries.now) }
-{
-    let empty = Access::empty(alloc);
-    extended(&empty, entries)
 }
 
 // How many tokens there are.

@@ -7,11 +7,11 @@ ghost use Rattle.chart_trees.specs.Paths.{path_of};
 
 use crate::codes::{code_of, is_lower, same_code};
 use crate::paths::Path;
-use chart_table::{same_entries, tail_of};
+use chart_table::tail_of;
 use codeco_terms::{Rule, Value};
 use derivation_trees::{Binds, Places, Tree};
 use lists::List;
-use scopes::{Access, Entry};
+use scopes::Access;
 use std::alloc::Global;
 use wiki_base::Memory;
 
@@ -21,7 +21,7 @@ pub(crate) struct Outcome {
     pub(crate) tree: Tree,
     pub(crate) code: List<u16>,
     pub(crate) place: u16,
-    pub(crate) tail: List<Entry>,
+    pub(crate) tail: Access,
 }
 
 // Where an outcome belongs among others: nowhere, since one with its end is as low; in the place of one with its end that
@@ -37,7 +37,7 @@ fn same_end(one: &Outcome, other: &Outcome) -> bool
     ensures place { IsTrue result → one.now.place ≡ other.now.place }
     ensures tail { IsTrue result → one.now.tail ≡ other.now.tail }
 {
-    one.place == other.place && same_entries(one.tail.as_slice(), other.tail.as_slice())
+    one.place == other.place && one.tail.is_same(&other.tail)
 }
 
 // Whether the outcome leads to the other's end with a code that is not above.

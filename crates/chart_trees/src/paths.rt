@@ -8,7 +8,6 @@ ghost use Rattle.derivations.specs.Enumeration as enumeration;
 ghost use Rattle.chart_trees.specs.Paths.{path_of, outcome_at};
 
 use crate::outcomes::Outcome;
-use chart_table::extended;
 use codeco_terms::{Element, Patterns, Rule, Value};
 use derivation_trees::{Progress, Setting, Trees, own_values, pass, tests_under};
 use lists::List;
@@ -156,7 +155,7 @@ fn joined(alloc: Global, path: &Path, child: &Outcome) -> Result<Path, Memory>
         own: copy_pairs(alloc, path.own.as_slice())?,
         children,
         place: child.place,
-        list: extended(&path.list, child.tail.as_slice())?,
+        list: path.list.join(&child.tail)?,
     })
 }
 

@@ -12,12 +12,12 @@ ghost use Rattle.chart_trees.specs.Outcomes as ends;
 
 use crate::outcomes::Outcome;
 use crate::table::{Tables, best_of};
-use chart_table::plans_of;
+use chart_table::{Rows, plans_of};
 use codeco_checked::{CheckedGrammar, FIRST_PLAIN};
 use derivation_trees::{Setting, Skeleton, readings_of, sketch_of};
 use lexicon::Lexicon;
 use lists::List;
-use scopes::{Test, TestValues};
+use scopes::{Access, Test, TestValues};
 use std::alloc::Global;
 use std::cmp::Ordering;
 use wiki_base::{Memory, Tokens};
@@ -112,10 +112,10 @@ fn least_in(alloc: Global, setting: &Setting<'_>) -> Result<Option<Skeleton>, Me
 {
     let plans = plans_of(alloc, setting.grammar)?;
     let mut tables = Tables {
-        ends: List::new(alloc),
+        ends: Rows::new(alloc),
         rows: List::new(alloc),
     };
-    let list = List::new(alloc);
+    let list = Access::empty(alloc);
     let number = best_of(
         alloc,
         setting,

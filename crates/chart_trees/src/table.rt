@@ -17,12 +17,12 @@ ghost use Rattle.chart_trees.specs.Tables as tabled;
 use crate::outcomes::{Outcome, push_ended};
 use crate::paths::{Path, opened, push_joined, push_passed};
 use chart_table::{
-    Plan, Row, access_of, leading_instances, plan_for, referents_of, same_entries, same_values,
+    Plan, Rows, leading_instances, plan_for, same_values,
 };
 use codeco_terms::{Category, Element, Rule, Value};
 use derivation_trees::{Setting, fits, under};
 use lists::List;
-use scopes::{Access, Entry, Test};
+use scopes::{Access, Test};
 use std::alloc::Global;
 use wiki_base::Memory;
 
@@ -31,23 +31,23 @@ use wiki_base::Memory;
 pub(crate) struct Best {
     pub(crate) asked: Test,
     pub(crate) place: u16,
-    pub(crate) list: List<Entry>,
+    pub(crate) list: Access,
     pub(crate) outcomes: List<Outcome>,
 }
 
 // The table of ends, and that of least trees.
 #[derive(Drop)]
 pub(crate) struct Tables {
-    pub(crate) ends: List<Row>,
+    pub(crate) ends: Rows,
     pub(crate) rows: List<Best>,
 }
 
-fn is_row(row: &Best, asked: &Test, place: u16, list: &[Entry]) -> bool
+fn is_row(row: &Best, asked: &Test, place: u16, list: &Access) -> bool
     ensures asked { IsTrue result → row.now.asked ≡ asked.now }
     ensures place { IsTrue result → row.now.place ≡ place }
     ensures list { IsTrue result → row.now.list ≡ list.now }
 {
-    row.place == place && same_test(&row.asked, asked) && same_entries(row.list.as_slice(), list)
+    row.place == place && same_test(&row.asked, asked) && row.list.is_same(list)
 }
 
 fn same_test(one: &Test, other: &Test) -> bool
@@ -57,7 +57,7 @@ fn same_test(one: &Test, other: &Test) -> bool
 }
 
 // The number of the row, if it is there. The newest rows are looked at first.
-fn find(rows: &[Best], asked: &Test, place: u16, list: &[Entry]) -> Option<usize>
+fn find(rows: &[Best], asked: &Test, place: u16, list: &Access) -> Option<usize>
     ensures { IfSome result (λ number. tabled.IsFound rows.now number asked.now place list.now) }
 {
     let mut number = rows.len();
@@ -116,7 +116,7 @@ pub(crate) fn best_of(
     depth: u32,
     asked: Test,
     place: u16,
-    list: List<Entry>,
+    list: Access,
 ) -> Result<usize, Memory>
     requires limited { IsLimited setting.now.grammar }
     requires plans { ArePlans setting.now plans.now }
@@ -124,11 +124,10 @@ pub(crate) fn best_of(
     ensures tables { OnOk result (tabled.AreTables setting.now tables.new) }
     ensures row { IfOk result (λ number. tabled.HasBest setting.now tables.new.rows number asked (record { place = place; list = list })) }
 {
-    if let Some(number) = find(tables.rows.as_slice(), &asked, place, list.as_slice()) {
+    if let Some(number) = find(tables.rows.as_slice(), &asked, place, &list) {
         return Ok(number);
     }
-    let start = access_of(alloc, list.as_slice())?;
-    let outcomes = all_outcomes(alloc, setting, plans, tables, depth, &asked, place, &start)?;
+    let outcomes = all_outcomes(alloc, setting, plans, tables, depth, &asked, place, &list)?;
     let row = Best {
         asked,
         place,
@@ -465,7 +464,7 @@ fn push_child(
 {
     let deeper = depth.checked_sub(1).ok_or(Memory)?;
     let asked = under(alloc, values, category)?;
-    let list = referents_of(alloc, &path.list)?;
+    let list = path.list.referents()?;
     let number = best_of(
         alloc, setting, plans, tables, deeper, asked, path.place, list,
     )?;

@@ -1,4 +1,4 @@
-use Rattle.std.proofs.Common.{◌<◌, ◌++◌, ◌∷◌, [], length, map, ap, ◌∙◌, sym, subst, arith, rules}
+use Rattle.std.proofs.Common.{◌<◌, ◌++◌, ◌∷◌, [], length, map, refl, ap, ◌∙◌, sym, subst, arith, rules}
 use Rattle.std.proofs.lemmas.Option.{slice_get_within}
 use Rattle.derivation_trees.proofs.StandLemmas.{not_sub}
 use Rattle.chart_trees.specs.Paths.{path_of}
@@ -14,20 +14,20 @@ use Rattle.chart_trees.proofs.table.+best.Goals as goal
 
 pub best_of-returns-in-Some-clause-row : goal.best_of-returns-in-Some-clause-row
 best_of-returns-in-Some-clause-row t c =
-    row_found c.args.setting.now c.args.tables.now c.as_slice.result.now c.in-Some.number c.args.asked c.args.place c.args.list c.as_slice-2.result.now
-    c.as_slice.ensures c.as_slice-2.ensures c.requires.tables c.in-Some.ensures
+    row_found c.args.setting.now c.args.tables.now c.as_slice.result.now c.in-Some.number c.args.asked c.args.place c.args.list c.args.list
+    c.as_slice.ensures refl c.requires.tables c.in-Some.ensures
 
 pub best_of-returns-clause-tables : goal.best_of-returns-clause-tables
 best_of-returns-clause-tables t c =
     tables_more c.args.setting.now c.all_outcomes.new.tables c.push_new_row.new.rows
-    (record { asked = c.args.asked; place = c.args.place; list = c.args.list; outcomes = c.in_ok-outcomes.outcomes }) c.in_ok-start.start
-    c.in_ok-number.ensures.rows (c.in_ok-start.ensures ∙ c.as_slice-3.ensures) c.in_ok-outcomes.ensures.tables c.in_ok-outcomes.ensures.best
+    (record { asked = c.args.asked; place = c.args.place; list = c.args.list; outcomes = c.in_ok-outcomes.outcomes }) c.args.list
+    c.in_ok-number.ensures.rows refl c.in_ok-outcomes.ensures.tables c.in_ok-outcomes.ensures.best
 
 pub best_of-returns-clause-row : goal.best_of-returns-clause-row
 best_of-returns-clause-row t c =
     row_new c.args.setting.now c.all_outcomes.new.tables.rows c.push_new_row.new.rows
     (record { asked = c.args.asked; place = c.args.place; list = c.args.list; outcomes = c.in_ok-outcomes.outcomes }) c.in_ok-number.number
-    c.in_ok-start.start c.in_ok-number.ensures.rows c.in_ok-number.ensures.number (c.in_ok-start.ensures ∙ c.as_slice-3.ensures)
+    c.args.list c.in_ok-number.ensures.rows c.in_ok-number.ensures.number refl
     c.in_ok-outcomes.ensures.best
 
 pub all_outcomes-loop-index-init : goal.all_outcomes-loop-index-init

@@ -8,10 +8,11 @@ ghost use Rattle.derivation_trees.specs.Sentences.{setting_of, IsSentence};
 ghost use Rattle.lexicon.specs.Readings as lexical;
 ghost use Rattle.derivation_trees.specs.Menus.{IsMenu};
 ghost use Rattle.derivations.specs.Typing.{IsTextMenu};
+ghost use Rattle.chart_table.specs.Choices.{EachPlan};
 ghost use Rattle.chart.specs.Charts as charting;
 
 use crate::menus::menu_for;
-use chart_table::{same_values, standing_of};
+use chart_table::{Plan, plans_of, same_values, standing_of};
 use codeco_checked::CheckedGrammar;
 use codeco_terms::Ground;
 use derivation_trees::{Menu, Setting, readings_of};
@@ -19,13 +20,16 @@ use lexicon::{Lexicon, Readings};
 use lists::List;
 use std::alloc::Global;
 use std::marker::Model;
+use std::rc::Rc;
 use wiki_base::{Copied, Memory, Token, Tokens};
 
 /// At most 40 tokens, with the grammar and the readings that they have been taken with. Of the tokens and of each list of
-/// first ones it is kept whether they have a derivation. Seen as the grammar, the tokens and their readings.
+/// first ones it is kept whether they have a derivation, and of the grammar the plans of its rules. Seen as the grammar, the tokens
+/// and their readings.
 #[derive(Drop)]
 pub struct Chart {
     grammar: CheckedGrammar,
+    plans: Rc<List<Plan>>,
     tokens: Tokens,
     readings: List<Readings>,
     derives: List<bool>,
@@ -39,20 +43,22 @@ impl Model for Chart {
 
     ghost view = { λ c. record { grammar = c.grammar; tokens = c.tokens; readings = c.readings } };
 
-    ghost invariant = { λ c. charting.IsChart (record { grammar = c.grammar; tokens = c.tokens; readings = c.readings }) c.derives };
+    ghost invariant = { λ c. charting.IsChart (record { grammar = c.grammar; tokens = c.tokens; readings = c.readings }) c.plans.value c.derives };
 }
 
 impl Chart {
-    /// The chart of no tokens, which keeps a copy of the grammar.
+    /// The chart of no tokens, which keeps a copy of the grammar, and makes the plans of its rules.
     pub fn new(alloc: Global, grammar: &CheckedGrammar) -> Result<Chart, Memory>
         ensures { IfOk result (λ chart. chart ≡ record { grammar = grammar.now; tokens = []; readings = [] }) }
     {
         let kept = grammar.copy()?;
-        let yes = derives_nothing(alloc, &kept)?;
+        let plans = Rc::new(alloc, plans_of(alloc, kept.grammar())?)?;
+        let yes = derives_nothing(alloc, &kept, plans.as_ref().as_slice())?;
         let mut derives = List::new(alloc);
         derives.push(yes)?;
         Ok(Chart {
             grammar: kept,
+            plans,
             tokens: Tokens::new(alloc),
             readings: List::new(alloc),
             derives,
@@ -82,7 +88,7 @@ impl Chart {
         ensures unchanged { OnErr result (self.new ≡ self.old) }
     {
         let tokens = with_token(&self.tokens, token)?;
-        let step = step_to(grammar, lexicon, &tokens)?;
+        let step = step_to(grammar, lexicon, &tokens, self.plans.as_ref().as_slice())?;
         self.derives.push(step.derives)?;
         self.tokens = tokens;
         self.readings = step.readings;
@@ -110,11 +116,12 @@ impl Chart {
             lexicon,
             &self.tokens,
             self.readings.as_slice(),
+            self.plans.as_ref().as_slice(),
         )
     }
 
     /// The chart of the tokens before the first whose readings by the lexicon are other than those that are kept, with the grammar
-    /// that is kept. What is known of these tokens is copied, and no table is made.
+    /// that is kept and its plans, which the two share. What is known of these tokens is copied, and no table is made.
     pub fn unchanged(&self, lexicon: &Lexicon) -> Result<Chart, Memory>
         ensures front { IfOk result (λ chart. chart ≡ charting.first_of self.now (length chart.tokens)) }
         ensures within { IfOk result (λ chart. length chart.tokens ≤ length self.now.tokens) }
@@ -127,6 +134,7 @@ impl Chart {
         let derives = List::from_slice(alloc, &self.derives.as_slice()[..count + 1])?;
         Ok(Chart {
             grammar: self.grammar.copy()?,
+            plans: self.plans.clone()?,
             tokens,
             readings,
             derives,
@@ -156,8 +164,9 @@ impl Chart {
     }
 }
 
-// Whether no tokens have a derivation.
-fn derives_nothing(alloc: Global, grammar: &CheckedGrammar) -> Result<bool, Memory>
+// Whether no tokens have a derivation. The plans are those of the grammar's rules.
+fn derives_nothing(alloc: Global, grammar: &CheckedGrammar, plans: &[Plan]) -> Result<bool, Memory>
+    requires { EachPlan grammar.now grammar.now.rules plans.now }
     ensures { IfOk result
         (λ yes. IsTrue yes ↔ ((tree : Node) × IsDerivation (record { grammar = grammar.now; tokens = []; readings = [] }) tree)) }
 {
@@ -166,7 +175,7 @@ fn derives_nothing(alloc: Global, grammar: &CheckedGrammar) -> Result<bool, Memo
         tokens: &[],
         readings: &[],
     };
-    let standing = standing_of(alloc, &setting)?;
+    let standing = standing_of(alloc, &setting, plans)?;
     Ok(standing.derives)
 }
 
@@ -221,8 +230,14 @@ struct Step {
     derives: bool,
 }
 
-fn step_to(grammar: &CheckedGrammar, lexicon: &Lexicon, tokens: &Tokens) -> Result<Step, Memory>
-    requires { length tokens.now ≤ MOST_TOKENS }
+fn step_to(
+    grammar: &CheckedGrammar,
+    lexicon: &Lexicon,
+    tokens: &Tokens,
+    plans: &[Plan],
+) -> Result<Step, Memory>
+    requires few { length tokens.now ≤ MOST_TOKENS }
+    requires plans { EachPlan grammar.now grammar.now.rules plans.now }
     ensures readings { IfOk result (λ step. step.readings ≡ map (lexical.readings_of lexicon.now.live) tokens.now) }
     ensures begins { IfOk result (λ step. IsTrue step.begins ↔ IsBeginning grammar.now lexicon.now tokens.now) }
     ensures derives { IfOk result (λ step. IsTrue step.derives ↔ IsSentence grammar.now lexicon.now tokens.now) }
@@ -234,7 +249,7 @@ fn step_to(grammar: &CheckedGrammar, lexicon: &Lexicon, tokens: &Tokens) -> Resu
         tokens: tokens.as_slice(),
         readings: readings.as_slice(),
     };
-    let standing = standing_of(alloc, &setting)?;
+    let standing = standing_of(alloc, &setting, plans)?;
     Ok(Step {
         readings,
         begins: standing.begins,

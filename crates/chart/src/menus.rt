@@ -8,10 +8,11 @@ ghost use Rattle.derivation_trees.specs.Menus.{IsMenu};
 ghost use Rattle.derivations.specs.Entries.{shown, texts_of, goes_on, tried as with_tried, all_tried, forms_in, forms_among, functions_in, IsInOrder, AreTexts};
 ghost use Rattle.derivations.specs.Typing.{IsTextMenu};
 ghost use Rattle.derivation_trees.specs.Partial.{IsBeginning};
+ghost use Rattle.chart_table.specs.Choices.{EachPlan};
 
 use crate::entries::{Entry, in_order, menu_of, put};
 use crate::offers::{add_known, add_new};
-use chart_table::begins;
+use chart_table::{Plan, begins};
 use codeco_checked::CheckedGrammar;
 use codeco_terms::Symbol;
 use derivation_trees::{Group, Menu};
@@ -189,16 +190,19 @@ fn menu_by_trying<'a>(
     menu_of(alloc, entries.as_slice())
 }
 
-// The menu of the tokens, which have these readings, where the terminals are those of the lexicon, so that no form is one.
+// The menu of the tokens, which have these readings, where the terminals are those of the lexicon, so that no form is one, and the
+// plans those of the grammar's rules.
 fn menu_by_asking<'a>(
     alloc: Global,
     grammar: &'a CheckedGrammar,
     lexicon: &'a Lexicon,
     tokens: &Tokens,
     readings: &[Readings],
+    plans: &[Plan],
 ) -> Result<Menu<'a>, Memory>
     requires few { length tokens.now ≤ MOST_TOKENS }
     requires readings { readings.now ≡ map (lexical.readings_of lexicon.now.live) tokens.now }
+    requires plans { EachPlan grammar.now grammar.now.rules plans.now }
     requires terminals { length grammar.now.terminals ≤ 65535 }
     requires same { grammar.now.terminals ≡ lexicon.now.terminals }
     ensures menu { All IsUtf8 grammar.now.terminals → IfOk result (IsMenu grammar.now lexicon.now tokens.now) }
@@ -212,10 +216,11 @@ fn menu_by_asking<'a>(
         lexicon,
         tokens,
         readings,
+        plans,
         texts.as_slice(),
         &mut found,
     )?;
-    add_new(alloc, grammar, lexicon, tokens, readings, &mut found)?;
+    add_new(alloc, grammar, lexicon, tokens, readings, plans, &mut found)?;
     let entries = in_order(alloc, found)?;
     menu_of(alloc, entries.as_slice())
 }
@@ -241,22 +246,24 @@ fn are_same(symbols: &[Symbol], others: &[Symbol]) -> bool
     true
 }
 
-// The menu of the tokens, which have these readings.
+// The menu of the tokens, which have these readings. The plans are those of the grammar's rules.
 pub(crate) fn menu_for<'a>(
     alloc: Global,
     grammar: &'a CheckedGrammar,
     lexicon: &'a Lexicon,
     tokens: &Tokens,
     readings: &[Readings],
+    plans: &[Plan],
 ) -> Result<Menu<'a>, Memory>
     requires few { length tokens.now ≤ MOST_TOKENS }
     requires readings { readings.now ≡ map (lexical.readings_of lexicon.now.live) tokens.now }
+    requires plans { EachPlan grammar.now grammar.now.rules plans.now }
     ensures menu { All IsUtf8 grammar.now.terminals → IfOk result (IsMenu grammar.now lexicon.now tokens.now) }
     ensures texts { IfOk result (IsTextMenu grammar.now lexicon.now tokens.now) }
 {
     let terminals = grammar.grammar().terminals().as_slice();
     if terminals.len() <= MOST_ASKED && are_same(terminals, lexicon.terminals().as_slice()) {
-        menu_by_asking(alloc, grammar, lexicon, tokens, readings)
+        menu_by_asking(alloc, grammar, lexicon, tokens, readings, plans)
     } else {
         menu_by_trying(alloc, grammar, lexicon, tokens)
     }

@@ -9,11 +9,12 @@ ghost use Rattle.lexicon.specs.Readings as lexical;
 ghost use Rattle.lexicon.specs.Words.{IsLexicon};
 ghost use Rattle.lexicon.specs.declared.words.Word.{Word as TheEntry};
 ghost use Rattle.derivations.specs.Entries.{shown, texts_of, forms_in, functions_in};
+ghost use Rattle.chart_table.specs.Choices.{EachPlan};
 ghost use Rattle.chart.specs.Offers as offers;
 
 use crate::classes::{class_asks, class_of, form_ask};
 use crate::entries::Entry;
-use chart_table::{Ask, may_follow};
+use chart_table::{Ask, Plan, may_follow};
 use codeco_checked::CheckedGrammar;
 use codeco_terms::{Ground, Symbol, Value};
 use derivation_trees::{Group, Setting, readings_of};
@@ -48,9 +49,11 @@ fn told_of(
     lexicon: &Lexicon,
     tokens: &Tokens,
     last: Readings,
+    plans: &[Plan],
     asks: &[Ask],
 ) -> Result<List<bool>, Memory>
     requires few { length tokens.now ≤ MOST_TOKENS }
+    requires plans { EachPlan grammar.now grammar.now.rules plans.now }
     ensures { IfOk result (offers.Told
         (offers.with_last grammar.now tokens.now (map (lexical.readings_of lexicon.now.live) tokens.now) (120 ∷ []) last)
         (length tokens.now) asks.now) }
@@ -64,7 +67,7 @@ fn told_of(
         tokens: longer.as_slice(),
         readings: readings.as_slice(),
     };
-    may_follow(alloc, &setting, tokens.len(), asks)
+    may_follow(alloc, &setting, plans, tokens.len(), asks)
 }
 
 // The asks for the terminals.
@@ -182,12 +185,14 @@ pub(crate) fn add_known<'a>(
     lexicon: &'a Lexicon,
     tokens: &Tokens,
     readings: &[Readings],
+    plans: &[Plan],
     texts: &[&'a str],
     found: &mut Vec<Entry<'a>>,
 ) -> Result<(), Memory>
     requires few { length tokens.now ≤ MOST_TOKENS }
     requires terminals { length grammar.now.terminals ≤ 65535 }
     requires readings { readings.now ≡ map (lexical.readings_of lexicon.now.live) tokens.now }
+    requires plans { EachPlan grammar.now grammar.now.rules plans.now }
     ensures { OnOk result (offers.KnownFound grammar.now lexicon.now.live tokens.now (texts_of texts.now)
         (map shown found.old.items) (map shown found.new.items)) }
 {
@@ -202,6 +207,7 @@ pub(crate) fn add_known<'a>(
         lexicon,
         tokens,
         Readings::none(),
+        plans,
         asks.as_slice(),
     )?;
     let (terminals_told, forms_told) = told.as_slice().split_at(count);
@@ -266,10 +272,12 @@ pub(crate) fn add_new<'a>(
     lexicon: &'a Lexicon,
     tokens: &Tokens,
     readings: &[Readings],
+    plans: &[Plan],
     found: &mut Vec<Entry<'a>>,
 ) -> Result<(), Memory>
     requires few { length tokens.now ≤ MOST_TOKENS }
     requires readings { readings.now ≡ map (lexical.readings_of lexicon.now.live) tokens.now }
+    requires plans { EachPlan grammar.now grammar.now.rules plans.now }
     ensures found { OnOk result (
         offers.NoneNew lexicon.now.live tokens.now (map shown found.old.items) (map shown found.new.items)
         ⊎ offers.NewFound grammar.now lexicon.now.live tokens.now (map shown found.old.items) (map shown found.new.items)) }
@@ -281,6 +289,14 @@ pub(crate) fn add_new<'a>(
     let word = lexicon.get(place);
     let form = word.forms.texts.get(0);
     let last = lexicon.readings(form.as_str());
-    let told = told_of(alloc, grammar, lexicon, tokens, last, &class_asks(word.id))?;
+    let told = told_of(
+        alloc,
+        grammar,
+        lexicon,
+        tokens,
+        last,
+        plans,
+        &class_asks(word.id),
+    )?;
     add_words(lexicon, readings, told.as_slice(), found)
 }

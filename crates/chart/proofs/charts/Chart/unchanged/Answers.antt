@@ -1,5 +1,6 @@
 use Rattle.std.proofs.Common.{◌≡◌, ℕ, ◌+◌, ◌≤◌, List, map, take, length, rules, sym, ap, ◌∙◌, subst}
 use Rattle.lexicon.specs.Readings.{readings_of}
+use Rattle.chart.specs.Charts.{IsChart}
 use Rattle.chart.proofs.ChartLemmas.{setting, chart_unchanged}
 use Rattle.chart.proofs.charts.Chart.unchanged.Goals as goal
 
@@ -15,5 +16,7 @@ invariant_of-result c =
     let derives : c.in_ok-derives.derives ≡ take (n + 1) c.self.inside.derives = search rules in
     let read : c.from_vec-readings.result ≡ map f c.in_ok-tokens.tokens =
     c.from_vec-readings.ensures ∙ c.in_ok-readings_of.ensures ∙ ap (map f) c.as_slice-4.ensures in
-    chart_unchanged s c.self.inside.derives f n c.in_ok-copy.field-0 c.in_ok-tokens.tokens c.from_vec-readings.result c.in_ok-derives.derives
-    c.in_ok-copy.ensures tokens read same derives within c.self.invariant
+    let plans : c.in_ok-clone.field-0.value ≡ c.self.inside.plans.value = c.in_ok-clone.ensures.cases in
+    subst (λ p. IsChart (setting c.in_ok-copy.field-0 c.in_ok-tokens.tokens c.from_vec-readings.result) p c.in_ok-derives.derives) (sym plans)
+    (chart_unchanged s c.self.inside.plans.value c.self.inside.derives f n c.in_ok-copy.field-0 c.in_ok-tokens.tokens c.from_vec-readings.result c.in_ok-derives.derives
+    c.in_ok-copy.ensures tokens read same derives within c.self.invariant)

@@ -53,6 +53,18 @@ has_in readings word = list_any (λ r. has_value r.vals (3, word)) readings
 abbrev pub is_used : List (List Ground) → WordId → Bool
 is_used readings id = list_any (λ one. has_in one (TheWord id)) readings
 
+-- the word is one of these
+abbrev pub has_id : List WordId → WordId → Bool
+has_id ids id = list_any (λ other. other.0 == id.0) ids
+
+-- the words that are among the new ones are the old ones and those of which this holds
+abbrev pub Gains : List WordId → List WordId → (WordId → Bool) → Type 0
+Gains old new p = (id : WordId) → has_id new id ≡ (has_id old id || p id)
+
+-- the words are those that have a form among the tokens that have these readings
+abbrev pub AreUsed : List (List Ground) → List WordId → Type 0
+AreUsed readings ids = (id : WordId) → has_id ids id ≡ is_used readings id
+
 -- the asks for the forms of a word, of which the first has the place
 abbrev pub form_asks : Kind → WordId → ℕ → List (List ℕ) → List Ask
 form_asks k id place [] = []

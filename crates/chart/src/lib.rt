@@ -6,6 +6,7 @@ mod classes;
 mod entries;
 mod menus;
 mod offers;
+mod used;
 
 pub use chart_table::has_derivation;
 pub use charts::Chart;

@@ -12,6 +12,7 @@ ghost use Rattle.chart_table.specs.Choices.{EachPlan};
 
 use crate::entries::{Entry, in_order, menu_of, put};
 use crate::offers::{add_known, add_new};
+use crate::used::Used;
 use chart_table::{Plan, begins};
 use codeco_checked::CheckedGrammar;
 use codeco_terms::Symbol;
@@ -209,18 +210,19 @@ fn menu_by_asking<'a>(
     ensures texts { IfOk result (IsTextMenu grammar.now lexicon.now tokens.now) }
 {
     let texts = terminal_texts(alloc, grammar)?;
+    let used = Used::of(alloc, readings)?;
     let mut found = Vec::new(alloc);
     add_known(
         alloc,
         grammar,
         lexicon,
         tokens,
-        readings,
+        &used,
         plans,
         texts.as_slice(),
         &mut found,
     )?;
-    add_new(alloc, grammar, lexicon, tokens, readings, plans, &mut found)?;
+    add_new(alloc, grammar, lexicon, tokens, &used, plans, &mut found)?;
     let entries = in_order(alloc, found)?;
     menu_of(alloc, entries.as_slice())
 }

@@ -2,9 +2,7 @@
 // the tokens, and by another for the forms of all other words.
 ghost use Rattle.std.specs.Prelude.{◌≡◌, ◌&&◌, ℕ, ◌≤◌, ◌<◌, ◌∷◌, [], ◌++◌, length, map, filter, true, false, IfOk, OnOk, IfSome, IfNone, Some, slice_get, slice_index_or, IsTrue, ◌⊎◌};
 ghost use Rattle.std.specs.Str.{bytes_eq};
-ghost use Rattle.codeco_terms.specs.declared.values.Value.TheVariants.{Word as TheWord};
 ghost use Rattle.wiki_base.specs.declared.tokens.TheConstants.{MOST_TOKENS};
-ghost use Rattle.scopes.specs.Resolution as resolution;
 ghost use Rattle.lexicon.specs.Readings as lexical;
 ghost use Rattle.lexicon.specs.Words.{IsLexicon};
 ghost use Rattle.lexicon.specs.declared.words.Word.{Word as TheEntry};
@@ -14,33 +12,15 @@ ghost use Rattle.chart.specs.Offers as offers;
 
 use crate::classes::{class_asks, class_of, form_ask};
 use crate::entries::Entry;
+use crate::used::Used;
 use chart_table::{Ask, Plan, may_follow};
 use codeco_checked::CheckedGrammar;
-use codeco_terms::{Ground, Symbol, Value};
+use codeco_terms::Symbol;
 use derivation_trees::{Group, Setting, readings_of};
 use lexicon::{Lexicon, Readings, Word};
 use lists::List;
-use scopes::has_value;
 use std::alloc::Global;
-use wiki_base::{Copied, Memory, Token, Tokens, WordId};
-
-/// The feature of preterminals that holds the word.
-const WORD_FEATURE: u16 = 3;
-
-fn has_in(readings: &[Ground], word: Value) -> bool
-    ensures { result ≡ offers.has_in readings.now word }
-{
-    readings.iter().any(|reading| has_value(reading.vals.as_slice(), (WORD_FEATURE, word)))
-}
-
-// Whether the word has a form among the tokens that have these readings.
-fn is_used(readings: &[Readings], id: WordId) -> bool
-    ensures { result ≡ offers.is_used readings.now id }
-{
-    readings
-        .iter()
-        .any(|one| has_in(one.as_slice(), Value::Word(id)))
-}
+use wiki_base::{Copied, Memory, Token, Tokens};
 
 // What is told of the asks by the table of the tokens and one more, which has these readings.
 fn told_of(
@@ -102,16 +82,16 @@ fn ask_forms<'a>(
 // Adds the forms of words that have a form among the tokens, and the asks for them.
 fn ask_used<'a>(
     lexicon: &'a Lexicon,
-    readings: &[Readings],
+    used: &Used<'_>,
     forms: &mut Vec<Entry<'a>>,
     asks: &mut List<Ask>,
 ) -> Result<(), Memory>
-    ensures forms { OnOk result (map shown forms.new.items ≡ map shown forms.old.items ++ offers.used_forms readings.now lexicon.now.live) }
-    ensures asks { OnOk result (asks.new ≡ asks.old ++ offers.used_asks readings.now lexicon.now.live) }
+    ensures forms { OnOk result (map shown forms.new.items ≡ map shown forms.old.items ++ offers.used_forms used.now lexicon.now.live) }
+    ensures asks { OnOk result (asks.new ≡ asks.old ++ offers.used_asks used.now lexicon.now.live) }
 {
     for place in 0..lexicon.len() {
         let word = lexicon.get(place);
-        if is_used(readings, word.id) {
+        if used.has(word.id) {
             ask_forms(word, forms, asks)?;
         }
     }
@@ -184,14 +164,14 @@ pub(crate) fn add_known<'a>(
     grammar: &CheckedGrammar,
     lexicon: &'a Lexicon,
     tokens: &Tokens,
-    readings: &[Readings],
+    used: &Used<'_>,
     plans: &[Plan],
     texts: &[&'a str],
     found: &mut Vec<Entry<'a>>,
 ) -> Result<(), Memory>
     requires few { length tokens.now ≤ MOST_TOKENS }
     requires terminals { length grammar.now.terminals ≤ 65535 }
-    requires readings { readings.now ≡ map (lexical.readings_of lexicon.now.live) tokens.now }
+    requires used { used.now ≡ map (lexical.readings_of lexicon.now.live) tokens.now }
     requires plans { EachPlan grammar.now grammar.now.rules plans.now }
     ensures { OnOk result (offers.KnownFound grammar.now lexicon.now.live tokens.now (texts_of texts.now)
         (map shown found.old.items) (map shown found.new.items)) }
@@ -200,7 +180,7 @@ pub(crate) fn add_known<'a>(
     let count = terminals.len();
     let mut asks = terminal_asks(alloc, terminals)?;
     let mut forms = Vec::new(alloc);
-    ask_used(lexicon, readings, &mut forms, &mut asks)?;
+    ask_used(lexicon, used, &mut forms, &mut asks)?;
     let told = told_of(
         alloc,
         grammar,
@@ -217,14 +197,14 @@ pub(crate) fn add_known<'a>(
 }
 
 // The place of the first word without a form among the tokens.
-fn first_new(lexicon: &Lexicon, readings: &[Readings]) -> Option<usize>
+fn first_new(lexicon: &Lexicon, used: &Used<'_>) -> Option<usize>
     ensures new { IfSome result (λ place. (place < length lexicon.now.live)
-        × ((word : TheEntry) → slice_get lexicon.now.live place ≡ Some word → offers.is_used readings.now word.id ≡ false)) }
+        × ((word : TheEntry) → slice_get lexicon.now.live place ≡ Some word → offers.is_used used.now word.id ≡ false)) }
     ensures lexicon { IsLexicon lexicon.now }
-    ensures none { IfNone result ((place : ℕ) (word : TheEntry) → slice_get lexicon.now.live place ≡ Some word → offers.is_used readings.now word.id ≡ true) }
+    ensures none { IfNone result ((place : ℕ) (word : TheEntry) → slice_get lexicon.now.live place ≡ Some word → offers.is_used used.now word.id ≡ true) }
 {
     for place in 0..lexicon.len() {
-        if !is_used(readings, lexicon.get(place).id) {
+        if !used.has(lexicon.get(place).id) {
             return Some(place);
         }
     }
@@ -249,16 +229,16 @@ fn add_forms<'a>(word: &'a Word, told: &[bool], found: &mut Vec<Entry<'a>>) -> R
 // Adds the forms of words without a form among the tokens, of whose class it is told that they may follow.
 fn add_words<'a>(
     lexicon: &'a Lexicon,
-    readings: &[Readings],
+    used: &Used<'_>,
     told: &[bool],
     found: &mut Vec<Entry<'a>>,
 ) -> Result<(), Memory>
     ensures { OnOk result (map shown found.new.items ≡ map shown found.old.items
-        ++ offers.new_forms readings.now told.now lexicon.now.live) }
+        ++ offers.new_forms used.now told.now lexicon.now.live) }
 {
     for place in 0..lexicon.len() {
         let word = lexicon.get(place);
-        if !is_used(readings, word.id) {
+        if !used.has(word.id) {
             add_forms(word, told, found)?;
         }
     }
@@ -271,19 +251,19 @@ pub(crate) fn add_new<'a>(
     grammar: &CheckedGrammar,
     lexicon: &'a Lexicon,
     tokens: &Tokens,
-    readings: &[Readings],
+    used: &Used<'_>,
     plans: &[Plan],
     found: &mut Vec<Entry<'a>>,
 ) -> Result<(), Memory>
     requires few { length tokens.now ≤ MOST_TOKENS }
-    requires readings { readings.now ≡ map (lexical.readings_of lexicon.now.live) tokens.now }
+    requires used { used.now ≡ map (lexical.readings_of lexicon.now.live) tokens.now }
     requires plans { EachPlan grammar.now grammar.now.rules plans.now }
     ensures found { OnOk result (
         offers.NoneNew lexicon.now.live tokens.now (map shown found.old.items) (map shown found.new.items)
         ⊎ offers.NewFound grammar.now lexicon.now.live tokens.now (map shown found.old.items) (map shown found.new.items)) }
     ensures lexicon { OnOk result (IsLexicon lexicon.now) }
 {
-    let Some(place) = first_new(lexicon, readings) else {
+    let Some(place) = first_new(lexicon, used) else {
         return Ok(());
     };
     let word = lexicon.get(place);
@@ -298,5 +278,5 @@ pub(crate) fn add_new<'a>(
         plans,
         &class_asks(word.id),
     )?;
-    add_words(lexicon, readings, told.as_slice(), found)
+    add_words(lexicon, used, told.as_slice(), found)
 }

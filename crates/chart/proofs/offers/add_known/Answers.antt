@@ -11,7 +11,7 @@ split_at-requires c =
     let g = c.args.grammar.now in
     let t = c.args.tokens.now in
     let live = c.args.lexicon.now.live in
-    let rs = c.args.readings.now in
+    let rs = c.args.used.now in
     let ts = c.as_slice-terminals.result.now in
     let s = with_last g t (map (readings_of live) t) (120 ∷ []) c.none.result in
     let are_asks : c.as_slice.result.now ≡ terminal_asks 0 ts ++ used_asks rs live =
@@ -29,7 +29,7 @@ returns c =
     let g = c.args.grammar.now in
     let t = c.args.tokens.now in
     let live = c.args.lexicon.now.live in
-    let rs = c.args.readings.now in
+    let rs = c.args.used.now in
     let texts = texts_of c.args.texts.now in
     let before = map shown c.args.found.now.items in
     let told = c.as_slice-2.result.now in
@@ -50,5 +50,5 @@ returns c =
     let middle : map shown c.add_terminals.new.found.items ≡ before ++ functions_in (filter (λ text. some_follows text g.terminals front) texts) =
     c.in_ok-add_terminals.ensures ∙ ap (λ ts. before ++ functions_in (filter (λ text. some_follows text ts front) texts)) ts_is in
     known_found g live t texts (120 ∷ []) rs c.as_slice.result.now told front back forms before (map shown c.add_terminals.new.found.items)
-    (map shown c.add_chosen.new.found.items) c.requires.readings are_asks tells (c.split_at.ensures.front ∙ ap (λ n. take n told) count)
+    (map shown c.add_chosen.new.found.items) c.requires.used are_asks tells (c.split_at.ensures.front ∙ ap (λ n. take n told) count)
     (c.split_at.ensures.back ∙ ap (λ n. drop n told) count) are_forms middle c.in_ok-add_chosen.ensures

@@ -16,7 +16,7 @@ returns-clause-found c =
     let tells = subst (Told (with_last g t (map (readings_of live) t) (120 ∷ []) c.readings-last.result) (length t) c.class_asks.result)
     (sym c.as_slice.ensures) c.in_ok-told.ensures in
     on_ok_weaker c.add_words.result (λ is. inr
-    (new_found g live t (120 ∷ []) c.args.readings.now c.readings-last.result c.class_asks.result told c.in-Some.place word c.as_str.result.now
-    (map shown c.args.found.now.items) (map shown c.add_words.new.found.items) c.requires.readings c.get-word.ensures
+    (new_found g live t (120 ∷ []) c.args.used.now c.readings-last.result c.class_asks.result told c.in-Some.place word c.as_str.result.now
+    (map shown c.args.found.now.items) (map shown c.add_words.new.found.items) c.requires.used c.get-word.ensures
     (c.get-form.ensures ∙ ap Some (sym c.as_str.ensures.value)) (c.in-Some.ensures.new.1 word c.get-word.ensures) c.readings-last.ensures
     c.class_asks.ensures tells is)) c.add_words.ensures

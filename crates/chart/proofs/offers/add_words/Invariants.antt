@@ -5,5 +5,5 @@ use Rattle.chart.proofs.offers.add_words.Given as goal
 
 abbrev pub invariant-loop-place : goal.invariant-loop-place
 invariant-loop-place l =
-    map shown l.found.items ++ new_forms l.readings l.told (drop l.place l.lexicon.live)
-    ≡ map shown l.initial.found.items ++ new_forms l.readings l.told l.lexicon.live
+    map shown l.found.items ++ new_forms l.used l.told (drop l.place l.lexicon.live)
+    ≡ map shown l.initial.found.items ++ new_forms l.used l.told l.lexicon.live

@@ -5,7 +5,7 @@ use Rattle.chart.proofs.offers.ask_used.Given as goal
 
 abbrev pub invariant-loop-place : goal.invariant-loop-place
 invariant-loop-place l = record {
-  forms : map shown l.forms.items ++ used_forms l.readings (drop l.place l.lexicon.live)
-      ≡ map shown l.initial.forms.items ++ used_forms l.readings l.lexicon.live;
-  asks : l.asks ++ used_asks l.readings (drop l.place l.lexicon.live) ≡ l.initial.asks ++ used_asks l.readings l.lexicon.live;
+  forms : map shown l.forms.items ++ used_forms l.used (drop l.place l.lexicon.live)
+      ≡ map shown l.initial.forms.items ++ used_forms l.used l.lexicon.live;
+  asks : l.asks ++ used_asks l.used (drop l.place l.lexicon.live) ≡ l.initial.asks ++ used_asks l.used l.lexicon.live;
 }

@@ -16,10 +16,10 @@ pub(crate) type Entry<'a> = (Group, &'a str);
 fn order(one: &Entry<'_>, other: &Entry<'_>) -> Ordering
     ensures { result ≡ entry_cmp (shown one.now) (shown other.now) }
 {
-    one.0
-        .number()
-        .cmp(&other.0.number())
-        .then(one.1.cmp(other.1))
+    match one.0.number().cmp(&other.0.number()) {
+        Ordering::Equal => one.1.cmp(other.1),
+        groups => groups,
+    }
 }
 
 // Where to look between two places: first at the last of so many, since most entries come after all others.

@@ -1,5 +1,5 @@
 -- What is found, put in order, is the menu.
-use Rattle.std.proofs.Common.{◌≡◌, ℕ, suc, zero, ◌+◌, ◌<◌, List, [], ◌∷◌, ◌++◌, Bool, true, false, ◌||◌, map, filter, length, Some, ◌⊎◌, inl, inr, refl, sym, ap, ◌∙◌, subst, arith}
+use Rattle.std.proofs.Common.{◌≡◌, ℕ, suc, zero, ◌+◌, ◌-◌, ◌<◌, List, [], ◌∷◌, ◌++◌, Bool, true, false, ◌||◌, map, filter, length, take, get_or, Some, ◌⊎◌, inl, inr, refl, sym, ap, ◌∙◌, subst, arith}
 use Rattle.std.specs.Prelude.{if◌then◌else◌, slice_get, slice_index_or}
 use Rattle.std.specs.Str.{bytes_eq}
 use Rattle.std.specs.declared.cmp.Ordering.TheVariants.{Less, Greater}
@@ -27,7 +27,7 @@ use Rattle.derivations.specs.Among.{Among}
 use Rattle.derivations.specs.Entries.{shown, AllBefore, IsInOrder, goes_on, all_tried, forms_in, forms_among, functions_in, AreTexts}
 use Rattle.derivations.proofs.Members.{among_left, among_right, among_map, among_flat_map}
 use Rattle.derivations.proofs.SoundLemmas.{Mapped, from_map, Flattened, from_flat_map, either_among}
-use Rattle.derivations.proofs.EntryLemmas.{entry_total, all_tried_in_order, all_tried_keeps, all_tried_has, all_tried_from, contains_among, among_contains}
+use Rattle.derivations.proofs.EntryLemmas.{entry_total, entry_trans, all_tried_in_order, all_tried_keeps, all_tried_has, all_tried_from, contains_among, among_contains}
 use Rattle.derivations.proofs.TypingLemmas.{beginning_from_test, test_from_beginning, gathered}
 use Rattle.chart_table.specs.declared.asks.Ask.{Ask}
 use Rattle.chart_table.specs.declared.asks.Ask.TheVariants as ask
@@ -583,6 +583,57 @@ asked_gathered g l tokens texts found entries sound lexicon same are all ordered
 
 all_among : (cs xs : List (Group × List ℕ)) (e : Group × List ℕ) → Among (all_tried (λ x. true) cs xs) e → Among cs e ⊎ Among xs e
 all_among cs xs e h = either (λ m. inl m.0) inr (all_tried_from (λ x. true) cs xs e h)
+
+before_more : (x last next : Group × List ℕ) (ys : List (Group × List ℕ)) (k : ℕ) → slice_get ys k ≡ Some last → slice_get ys (suc k) ≡ Some next
+    → entry_cmp last next ≡ Less → AllBefore x (take (suc k) ys) → AllBefore x (take (suc (suc k)) ys)
+before_more x last next [] k a b h before = absurd (cc)
+before_more x last next (y ∷ []) zero a b h before = absurd (cc)
+before_more x last next (y ∷ z ∷ zs) zero a b h before =
+    (before.0, (entry_trans x y z before.0 (ap (λ e. entry_cmp e z) (same_Some y last a) ∙ ap (entry_cmp last) (same_Some z next b) ∙ h), tt))
+before_more x last next (y ∷ ys) (suc k) a b h before = (before.0, before_more x last next ys k a b h before.1)
+
+-- so many of the first entries stand in order, and the last of them is before the next one
+rising_more : (last next : Group × List ℕ) (ys : List (Group × List ℕ)) (k : ℕ) → slice_get ys k ≡ Some last → slice_get ys (suc k) ≡ Some next
+    → entry_cmp last next ≡ Less → IsInOrder (take (suc k) ys) → IsInOrder (take (suc (suc k)) ys)
+rising_more last next [] k a b h before = absurd (cc)
+rising_more last next (y ∷ []) zero a b h before = absurd (cc)
+rising_more last next (y ∷ z ∷ zs) zero a b h before =
+    (((ap (λ e. entry_cmp e z) (same_Some y last a) ∙ ap (entry_cmp last) (same_Some z next b) ∙ h), tt), (tt, tt))
+rising_more last next (y ∷ ys) (suc k) a b h before =
+    (before_more y last next ys k a b h before.0, rising_more last next ys k a b h before.1)
+
+one_rises : (ys : List (Group × List ℕ)) → IsInOrder (take 1 ys)
+one_rises [] = tt
+one_rises (y ∷ ys) = (tt, tt)
+
+entry_at : (xs : List (Group × Bor (List ℕ))) (i : ℕ) (d : Group × Bor (List ℕ)) → i < length xs → slice_get (map shown xs) i ≡ Some (shown (get_or xs i d))
+entry_at [] i d lt = absurd (omega arith)
+entry_at (x ∷ xs) zero d lt = refl
+entry_at (x ∷ xs) (suc i) d lt = entry_at xs i d (omega arith)
+
+-- one turn of the test whether entries stand in order
+pub rising_turn : (xs : List (Group × Bor (List ℕ))) (i : ℕ) (d e : Group × Bor (List ℕ)) → i < length xs
+    → entry_cmp (shown (get_or xs (i - 1) d)) (shown (get_or xs i e)) ≡ Less → IsInOrder (take i (map shown xs)) → IsInOrder (take (i + 1) (map shown xs))
+rising_turn xs zero d e lt h before = one_rises (map shown xs)
+rising_turn xs (suc k) d e lt h before =
+    let same : suc k - 1 ≡ k = omega arith in
+    let next : suc (suc k) ≡ suc k + 1 = omega arith in
+    subst (λ n. IsInOrder (take n (map shown xs))) next
+    (rising_more (shown (get_or xs k d)) (shown (get_or xs (suc k) e)) (map shown xs) k (entry_at xs k d (omega arith)) (entry_at xs (suc k) e lt)
+    (ap (λ n. entry_cmp (shown (get_or xs n d)) (shown (get_or xs (suc k) e))) (sym same) ∙ h) before)
+
+pub sorted_ordered : (found sorted : List (Group × Bor (List ℕ))) → IsPermutation found sorted → IsInOrder (map shown sorted)
+    → IsOrdered (map shown found) (map shown sorted)
+sorted_ordered found sorted moved rises =
+    let p = IsPermutation-map shown found sorted moved in
+    record {
+      ordered = rises;
+      kept = λ e h.
+          contains_among (map shown sorted) e (Contains-permutation (map shown found) (map shown sorted) e p (among_contains (map shown found) e h));
+      only = λ e h. contains_among (map shown found) e
+          (Contains-permutation (map shown sorted) (map shown found) e (IsPermutation-sym (map shown found) (map shown sorted) p)
+          (among_contains (map shown sorted) e h));
+    }
 
 pub put_ordered : (found sorted entries : List (Group × Bor (List ℕ))) → IsPermutation found sorted
     → map shown entries ≡ all_tried (λ e. true) (map shown sorted) [] → IsOrdered (map shown found) (map shown entries)

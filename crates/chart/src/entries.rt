@@ -1,5 +1,5 @@
 // The entries of a menu as they are gathered, in order.
-ghost use Rattle.std.specs.Prelude.{◌≡◌, ◌≤◌, ◌<◌, ◌∷◌, [], true, IfOk, OnOk, length, map};
+ghost use Rattle.std.specs.Prelude.{◌≡◌, ◌≤◌, ◌<◌, ◌∷◌, [], true, IfOk, OnOk, length, map, IsTrue};
 ghost use Rattle.derivation_trees.specs.Menus.{entry_cmp};
 ghost use Rattle.derivations.specs.Entries.{shown, with_entry, all_tried, IsInOrder, IsPlaceFor};
 ghost use Rattle.chart.specs.Offers.{IsOrdered};
@@ -76,7 +76,19 @@ fn put_all<'a>(found: &[Entry<'a>], entries: &mut Vec<Entry<'a>>) -> Result<(), 
     Ok(())
 }
 
-// The entries in order, each once.
+// Whether each of the entries is before the next one.
+fn are_rising(entries: &[Entry<'_>]) -> bool
+    ensures { IsTrue result → IsInOrder (map shown entries.now) }
+{
+    for place in 1..entries.len() {
+        if order(&entries[place - 1], &entries[place]) != Ordering::Less {
+            return false;
+        }
+    }
+    true
+}
+
+// The entries in order, each once. Where none was found twice, they are so once they are sorted.
 pub(crate) fn in_order<'a>(
     alloc: Global,
     mut found: Vec<Entry<'a>>,
@@ -84,6 +96,9 @@ pub(crate) fn in_order<'a>(
     ensures { IfOk result (λ entries. IsOrdered (map shown found.entry.items) (map shown entries.items)) }
 {
     found.sort_unstable_by(|one, other| order(one, other));
+    if are_rising(found.as_slice()) {
+        return Ok(found);
+    }
     let mut entries = Vec::with_capacity(alloc, found.len())?;
     put_all(found.as_slice(), &mut entries)?;
     Ok(entries)

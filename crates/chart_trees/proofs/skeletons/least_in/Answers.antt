@@ -22,17 +22,17 @@ get-row-requires c =
 
 pub least_among-requires : goal.least_among-requires
 least_among-requires c =
-    best_in c.args.setting.now c.best_of.new.tables.rows c.in_ok-number.number c.text.result c.new-list.result c.get-row.result.now c.as_slice-2.result.now
-    c.text.ensures c.new-list.ensures c.in_ok-number.ensures.row c.get-row.ensures c.as_slice-2.ensures
+    best_in c.args.setting.now c.best_of.new.tables.rows c.in_ok-number.number c.text.result c.empty-list.result c.get-row.result.now c.as_slice-2.result.now
+    c.text.ensures c.empty-list.ensures c.in_ok-number.ensures.row c.get-row.ensures c.as_slice-2.ensures
 
 pub returns-clause-least : goal.returns-clause-least
 returns-clause-least c =
-    let best = best_in c.args.setting.now c.best_of.new.tables.rows c.in_ok-number.number c.text.result c.new-list.result c.get-row.result.now
-    c.as_slice-2.result.now c.text.ensures c.new-list.ensures c.in_ok-number.ensures.row c.get-row.ensures c.as_slice-2.ensures in
+    let best = best_in c.args.setting.now c.best_of.new.tables.rows c.in_ok-number.number c.text.result c.empty-list.result c.get-row.result.now
+    c.as_slice-2.result.now c.text.ensures c.empty-list.ensures c.in_ok-number.ensures.row c.get-row.ensures c.as_slice-2.ensures in
     IfOk-weaker c.least_among.result _ _ (λ least of. (told c.args.setting.now c.as_slice-2.result.now least best of).some) c.least_among.ensures
 
 pub returns-clause-none : goal.returns-clause-none
 returns-clause-none c =
-    let best = best_in c.args.setting.now c.best_of.new.tables.rows c.in_ok-number.number c.text.result c.new-list.result c.get-row.result.now
-    c.as_slice-2.result.now c.text.ensures c.new-list.ensures c.in_ok-number.ensures.row c.get-row.ensures c.as_slice-2.ensures in
+    let best = best_in c.args.setting.now c.best_of.new.tables.rows c.in_ok-number.number c.text.result c.empty-list.result c.get-row.result.now
+    c.as_slice-2.result.now c.text.ensures c.empty-list.ensures c.in_ok-number.ensures.row c.get-row.ensures c.as_slice-2.ensures in
     IfOk-weaker c.least_among.result _ _ (λ least of. (told c.args.setting.now c.as_slice-2.result.now least best of).none) c.least_among.ensures

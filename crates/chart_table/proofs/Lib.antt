@@ -8,6 +8,7 @@ pub mod OneOfLemmas
 pub mod OpenerLemmas
 pub mod BranchLemmas
 pub mod MeetLemmas
+pub mod MergeLemmas
 pub mod StepLemmas
 pub mod ChoiceLemmas
 pub mod PlanLemmas

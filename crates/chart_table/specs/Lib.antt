@@ -1,6 +1,7 @@
 pub mod Leading
 pub mod Branches
 pub mod Features
+pub mod Merging
 pub mod Steps
 pub mod Choices
 pub mod Ends

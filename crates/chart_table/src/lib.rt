@@ -9,6 +9,7 @@ mod ends;
 mod features;
 mod fits;
 mod instances;
+mod merging;
 mod rows;
 mod sameness;
 mod sentences;

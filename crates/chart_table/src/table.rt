@@ -22,6 +22,7 @@ use crate::branches::{known_features, meet};
 use crate::choices::{Plan, count_at, features_at, plan_for};
 use crate::cuts::{push_cuts_here, push_cuts_within};
 use crate::ends::{are_bound, finished, finished_one};
+use crate::merging::merged;
 use crate::rows::Rows;
 use crate::sameness::{copy_values, same_end, same_values};
 use crate::states::{Aim, Bound, Cut, End, Feat, State};
@@ -488,6 +489,7 @@ fn next_states(
             &mut news, cuts,
         )?;
     }
+    let news = merged(alloc, news)?;
     Ok(news)
 }
 

@@ -3,6 +3,7 @@ use Rattle.std.proofs.lemmas.Option.{slice_get_within}
 use Rattle.derivation_trees.proofs.StandLemmas.{not_sub}
 use Rattle.chart_table.proofs.TurnLemmas.{steps_turn, steps_done}
 use Rattle.chart_table.proofs.CutLemmas.{after_none}
+use Rattle.chart_table.proofs.MergeLemmas.{steps_alike}
 use Rattle.chart_table.proofs.HeadLemmas.{cut_before_none, heads_turn, heads_done, among_none, enters_not, all_after_last, rule_cut, cut_rule_turn, start_cuts}
 use Rattle.chart_table.proofs.CycleLemmas.{row_found, row_returned, rows_returned, finished_same, start_steps, start_rules, rule_turn, rules_done, cuts_done, rule_pushed, after_turn, after_done, cut_turn, cut_done, plain_state, category_returned, category_cut, heads_same, not_category}
 use Rattle.chart_table.specs.Steps.{starting}
@@ -144,8 +145,9 @@ next_states-loop-state-preserved t c = record {
 
 pub next_states-returns-clause-steps : goal.next_states-returns-clause-steps
 next_states-returns-clause-steps t c =
-    steps_done c.args.setting.now c.args.rule.now c.args.number c.args.element.now c.args.states.now c.loop-state.news c.loop-state.state-index
-    c.loop-state-test.false c.loop-state.invariant.steps
+    steps_alike c.args.setting.now c.args.rule.now c.args.number c.args.element.now c.args.states.now c.loop-state.news c.in_ok-news.news
+    (steps_done c.args.setting.now c.args.rule.now c.args.number c.args.element.now c.args.states.now c.loop-state.news c.loop-state.state-index
+    c.loop-state-test.false c.loop-state.invariant.steps) c.in_ok-news.ensures
 
 pub next_states-returns-clause-cuts : goal.next_states-returns-clause-cuts
 next_states-returns-clause-cuts t c =

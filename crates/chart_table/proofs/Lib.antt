@@ -20,6 +20,7 @@ pub mod SentenceLemmas
 pub mod AskLemmas
 pub mod CutLemmas
 pub mod HeadLemmas
+pub mod SettleLemmas
 pub mod ToldLemmas
 pub mod InstanceLemmas
 pub mod IdleLemmas

@@ -77,7 +77,7 @@ fn bind_at(
 }
 
 // The assignment under which the term has the value, if there is one.
-fn bind_term(
+pub(crate) fn bind_term(
     alloc: Global,
     bound: &[(u8, Value)],
     term: Term,
@@ -118,7 +118,7 @@ fn push_restricted(
 }
 
 // The value of the term, where it is known.
-fn known_value(bound: &[(u8, Value)], term: Term) -> Option<Value>
+pub(crate) fn known_value(bound: &[(u8, Value)], term: Term) -> Option<Value>
     ensures { result ≡ branches.known_value bound.now term }
 {
     match term {

@@ -1,19 +1,22 @@
 // The phrases of a rule that are cut off, by the values of their heads.
-ghost use Rattle.std.specs.Prelude.{◌≡◌, ◌∷◌, [], ◌↔◌, if◌then◌else◌, length, option_map, true, IfOk, IsTrue, OnOk};
+ghost use Rattle.std.specs.Prelude.{◌≡◌, None, ◌∷◌, [], ◌↔◌, if◌then◌else◌, length, option_map, true, IfOk, IsTrue, OnOk};
+ghost use Rattle.std.specs.List.{cons_option};
+ghost use Rattle.derivation_trees.specs.Instances as instances;
 ghost use Rattle.chart_table.specs.Asks as asking;
+ghost use Rattle.chart_table.specs.Branches as branches;
 ghost use Rattle.chart_table.specs.Choices as choosing;
 ghost use Rattle.chart_table.specs.Cuts as cutting;
 
 use crate::asks::Ask;
-use crate::branches::{alone, copy_bound, meeting, read_as};
-use crate::choices::Plan;
+use crate::branches::{alone, bind_term, copy_bound, known_value, meeting, read_as};
+use crate::choices::{Plan, choices};
 use crate::ends::{finished, has_values, is_instance, values_of_all};
-use crate::sameness::same_values;
-use crate::states::{Aim, Bound, Cut, State};
+use crate::sameness::{same_pair, same_values};
+use crate::states::{Aim, Bound, Cut, Feat, State};
 use crate::steps::close;
 use crate::told::push_many_within;
 use codeco_terms::{Category, Element, Ground, Rule, Value};
-use derivation_trees::{Setting, under};
+use derivation_trees::{Setting, term_value, under};
 use lists::List;
 use scopes::{Access, TestValues};
 use std::alloc::Global;
@@ -34,6 +37,33 @@ pub(crate) fn has_cut(cuts: &[Cut], number: usize, values: &[(u16, Value)]) -> b
 {
     for cut in cuts {
         if is_cut(cut, number, values) {
+            return true;
+        }
+    }
+    false
+}
+
+// Whether the values are those of the features under the assignment.
+fn is_under(values: &[(u16, Value)], bound: &[(u8, Value)], feats: &[Feat]) -> bool
+    ensures { IsTrue result → values.now ≡ instances.feats_under bound.now feats.now }
+{
+    if values.len() != feats.len() {
+        return false;
+    }
+    for (place, feat) in feats.iter().enumerate() {
+        if !same_pair(values[place], (feat.0, term_value(bound, feat.1))) {
+            return false;
+        }
+    }
+    true
+}
+
+// Whether the cut-off phrase with the features under the assignment is there.
+fn has_head(cuts: &[Cut], number: usize, bound: &[(u8, Value)], feats: &[Feat]) -> bool
+    ensures { IsTrue result → cutting.HasCut cuts.now number (instances.feats_under bound.now feats.now) }
+{
+    for cut in cuts {
+        if cut.ask == number && is_under(cut.values.as_slice(), bound, feats) {
             return true;
         }
     }
@@ -112,11 +142,16 @@ fn push_head(
     requires settled { cutting.Settles rule.now bound.now }
     ensures { OnOk result (cutting.HasHeads setting.now rule.now (cutting.IsOf number (bound.now ∷ [])) cuts.old cuts.new) }
 {
-    let head = under(alloc, bound, &rule.head)?;
-    if has_cut(cuts.as_slice(), number, head.values.as_slice()) {
+    if has_head(
+        cuts.as_slice(),
+        number,
+        bound,
+        rule.head.feats.as_slice(),
+    ) {
         return Ok(());
     }
     if is_possible(alloc, setting, rule, plan, bound)? {
+        let head = under(alloc, bound, &rule.head)?;
         push_cut(number, head.values, cuts)?;
         return Ok(());
     }
@@ -143,6 +178,145 @@ fn push_settled(
     Ok(())
 }
 
+// Adds the heads of the instances that extend the assignment, which is closed first.
+fn push_closed(
+    alloc: Global,
+    setting: &Setting<'_>,
+    rule: &Rule,
+    plan: &Plan,
+    number: usize,
+    bound: &[(u8, Value)],
+    cuts: &mut List<Cut>,
+) -> Result<(), Memory>
+    requires { choosing.IsPlan setting.now rule.now plan.now }
+    ensures { OnOk result (cutting.HasHeads setting.now rule.now (cutting.IsOf number (bound.now ∷ [])) cuts.old cuts.new) }
+{
+    let one = alone(alloc, bound)?;
+    let settled = close(alloc, setting, plan, rule.head.feats.as_slice(), one)?;
+    push_settled(alloc, setting, rule, plan, number, settled.as_slice(), cuts)?;
+    Ok(())
+}
+
+// Whether the assignment tells the values of the head.
+fn settles(bound: &[(u8, Value)], rule: &Rule) -> bool
+    ensures { IsTrue result → cutting.Settles rule.now bound.now }
+{
+    let feats = rule.head.feats.as_slice();
+    for feat in feats {
+        if known_value(bound, feat.1).is_none() {
+            return false;
+        }
+    }
+    true
+}
+
+// Adds the heads of the instances that extend the assignment: the head that it tells, where it tells one.
+fn push_last(
+    alloc: Global,
+    setting: &Setting<'_>,
+    rule: &Rule,
+    plan: &Plan,
+    number: usize,
+    bound: &[(u8, Value)],
+    cuts: &mut List<Cut>,
+) -> Result<(), Memory>
+    requires { choosing.IsPlan setting.now rule.now plan.now }
+    ensures { OnOk result (cutting.HasHeads setting.now rule.now (cutting.IsOf number (bound.now ∷ [])) cuts.old cuts.new) }
+{
+    if settles(bound, rule) {
+        push_head(alloc, setting, rule, plan, number, bound, cuts)
+    } else {
+        push_closed(alloc, setting, rule, plan, number, bound, cuts)
+    }
+}
+
+// Adds the heads of the instances that extend the assignment, of which features are still to be gone through: one that isn't
+// known has each of its choices.
+#[cycle(heads)]
+fn push_from(
+    alloc: Global,
+    setting: &Setting<'_>,
+    rule: &Rule,
+    plan: &Plan,
+    number: usize,
+    feats: &[Feat],
+    bound: &[(u8, Value)],
+    cuts: &mut List<Cut>,
+) -> Result<(), Memory>
+    requires { choosing.IsPlan setting.now rule.now plan.now }
+    ensures { OnOk result (cutting.HasHeads setting.now rule.now (cutting.IsOf number (bound.now ∷ [])) cuts.old cuts.new) }
+{
+    match feats {
+        [] => push_last(alloc, setting, rule, plan, number, bound, cuts),
+        [feat, later @ ..] => {
+            if known_value(bound, feat.1).is_some() {
+                push_from(alloc, setting, rule, plan, number, later, bound, cuts)
+            } else {
+                push_each(
+                    alloc, setting, rule, plan, number, *feat, later, bound, cuts,
+                )
+            }
+        }
+    }
+}
+
+// Adds the heads of the instances that extend the assignment, with each choice for a feature.
+#[cycle(heads)]
+fn push_each(
+    alloc: Global,
+    setting: &Setting<'_>,
+    rule: &Rule,
+    plan: &Plan,
+    number: usize,
+    feat: Feat,
+    later: &[Feat],
+    bound: &[(u8, Value)],
+    cuts: &mut List<Cut>,
+) -> Result<(), Memory>
+    requires plan { choosing.IsPlan setting.now rule.now plan.now }
+    requires unknown { branches.known_value bound.now feat.1 ≡ None }
+    ensures { OnOk result (cutting.HasHeads setting.now rule.now (cutting.IsOf number (bound.now ∷ [])) cuts.old cuts.new) }
+{
+    let values = choices(alloc, setting, plan, feat.1)?;
+    for value in values.as_slice() {
+        let more = bind_term(alloc, bound, feat.1, *value)?;
+        push_some(alloc, setting, rule, plan, number, later, more, cuts)?;
+    }
+    Ok(())
+}
+
+// Adds the heads of the instances that extend the assignment, if there is one.
+#[cycle(heads)]
+fn push_some(
+    alloc: Global,
+    setting: &Setting<'_>,
+    rule: &Rule,
+    plan: &Plan,
+    number: usize,
+    later: &[Feat],
+    more: Option<Bound>,
+    cuts: &mut List<Cut>,
+) -> Result<(), Memory>
+    requires { choosing.IsPlan setting.now rule.now plan.now }
+    ensures { OnOk result (cutting.HasHeads setting.now rule.now (cutting.IsOf number (cons_option more [])) cuts.old cuts.new) }
+{
+    match more {
+        None => Ok(()),
+        Some(bound) => {
+            push_from(
+                alloc,
+                setting,
+                rule,
+                plan,
+                number,
+                later,
+                bound.as_slice(),
+                cuts,
+            )
+        }
+    }
+}
+
 // Adds the heads of the instances that extend the assignments.
 pub(crate) fn push_heads(
     alloc: Global,
@@ -150,14 +324,25 @@ pub(crate) fn push_heads(
     rule: &Rule,
     plan: &Plan,
     number: usize,
-    bounds: List<Bound>,
+    bounds: &[Bound],
     cuts: &mut List<Cut>,
 ) -> Result<(), Memory>
     requires { choosing.IsPlan setting.now rule.now plan.now }
-    ensures { OnOk result (cutting.HasHeads setting.now rule.now (cutting.IsOf number bounds) cuts.old cuts.new) }
+    ensures { OnOk result (cutting.HasHeads setting.now rule.now (cutting.IsOf number bounds.now) cuts.old cuts.new) }
 {
-    let settled = close(alloc, setting, plan, rule.head.feats.as_slice(), bounds)?;
-    push_settled(alloc, setting, rule, plan, number, settled.as_slice(), cuts)?;
+    let feats = rule.head.feats.as_slice();
+    for bound in bounds {
+        push_from(
+            alloc,
+            setting,
+            rule,
+            plan,
+            number,
+            feats,
+            bound.as_slice(),
+            cuts,
+        )?;
+    }
     Ok(())
 }
 
@@ -242,7 +427,7 @@ fn push_met(
     if bounds.is_empty() {
         return Ok(());
     }
-    push_heads(alloc, setting, rule, plan, number, bounds, cuts)?;
+    push_heads(alloc, setting, rule, plan, number, bounds.as_slice(), cuts)?;
     Ok(())
 }
 
@@ -343,7 +528,15 @@ fn push_cut_within(
     if bounds.is_empty() {
         return Ok(());
     }
-    push_heads(alloc, setting, rule, plan, cut.ask, bounds, cuts)?;
+    push_heads(
+        alloc,
+        setting,
+        rule,
+        plan,
+        cut.ask,
+        bounds.as_slice(),
+        cuts,
+    )?;
     Ok(())
 }
 

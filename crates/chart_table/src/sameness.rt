@@ -8,7 +8,7 @@ use scopes::TestValues;
 use std::alloc::Global;
 use wiki_base::Memory;
 
-fn same_pair(one: (u16, Value), other: (u16, Value)) -> bool
+pub(crate) fn same_pair(one: (u16, Value), other: (u16, Value)) -> bool
     ensures { IsTrue result ↔ one ≡ other }
 {
     one.0 == other.0 && one.1 == other.1

@@ -1,18 +1,19 @@
-use Rattle.std.proofs.Common.{sym, subst}
-use Rattle.chart_table.specs.Choices.{choices}
-use Rattle.chart_table.specs.Cuts.{AllSettle}
-use Rattle.chart_table.proofs.HeadLemmas.{all_settle, closed_heads}
+use Rattle.std.proofs.Common.{◌∷◌, [], subst}
+use Rattle.chart_table.specs.Cuts.{HasHeads, IsOf}
+use Rattle.chart_table.proofs.HeadLemmas.{of_none, of_turn, of_done}
 use Rattle.chart_table.proofs.cuts.push_heads.Goals as goal
 
-pub push_settled-requires-clause-settled : goal.push_settled-requires-clause-settled
-push_settled-requires-clause-settled c =
-    let plan = c.args.plan.now in
-    subst (AllSettle c.args.rule.now) (sym c.as_slice-2.ensures)
-    (all_settle c.args.rule.now (choices c.args.setting.now plan.terms plan.places plan.own) c.as_slice.result.now c.args.bounds c.in_ok-settled.settled
-    c.as_slice.ensures c.in_ok-settled.ensures)
+pub loop-bound-init : goal.loop-bound-init
+loop-bound-init c = of_none c.args.setting.now c.args.rule.now c.args.number c.args.cuts.now
+
+pub loop-bound-preserved : goal.loop-bound-preserved
+loop-bound-preserved c =
+    of_turn c.args.setting.now c.args.rule.now c.args.number c.args.bounds.now c.loop-bound.bound-index c.bound-item.result c.args.cuts.now c.loop-bound.cuts
+    c.push_from.new.cuts c.loop-bound-test.true c.bound-item.is c.loop-bound.invariant
+    (subst (λ b. HasHeads c.args.setting.now c.args.rule.now (IsOf c.args.number (b ∷ [])) c.loop-bound.cuts c.push_from.new.cuts) c.as_slice.ensures
+    c.in_ok-push_from.ensures)
 
 pub returns : goal.returns
 returns c =
-    closed_heads c.args.setting.now c.args.rule.now c.args.plan.now c.args.number c.as_slice.result.now c.args.bounds c.in_ok-settled.settled
-    c.as_slice-2.result.now c.args.cuts.now c.push_settled.new.cuts c.requires c.as_slice.ensures c.in_ok-settled.ensures c.as_slice-2.ensures
-    c.in_ok-push_settled.ensures
+    of_done c.args.setting.now c.args.rule.now c.args.number c.args.bounds.now c.loop-bound.bound-index c.args.cuts.now c.loop-bound.cuts
+    c.loop-bound-test.false c.loop-bound.invariant

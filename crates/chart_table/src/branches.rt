@@ -305,11 +305,7 @@ fn meet_one(bound: &mut Bound, pair: (u16, Value), feats: &[Feat]) -> Result<boo
 }
 
 // Makes each feature that is written in both have the value that is given; tells whether that could be done.
-pub(crate) fn meet(
-    bound: &mut Bound,
-    vals: &[(u16, Value)],
-    feats: &[Feat],
-) -> Result<bool, Memory>
+pub(crate) fn meet(bound: &mut Bound, vals: &[(u16, Value)], feats: &[Feat]) -> Result<bool, Memory>
     ensures { IfOk result (λ yes. branches.meeting vals.now feats.now (bound.old ∷ []) ≡ branches.one_if yes bound.new) }
 {
     for pair in vals {

@@ -25,6 +25,33 @@ use wiki_base::Memory;
 /// How many ways of being cut off are few: with more of them, what values tell is kept.
 const FEW: usize = 6;
 
+fn mixed(mark: u64, value: Value) -> u64 {
+    let number = match value {
+        Value::Atom(atom) => atom as u64,
+        Value::Word(word) => word.0 as u64,
+        Value::Pos(place) => place as u64,
+    };
+    mark.wrapping_mul(31).wrapping_add(number)
+}
+
+// The mark of the values for the ask with the number.
+fn mark_of(number: usize, values: &[(u16, Value)]) -> u64 {
+    let mut mark = number as u64;
+    for value in values {
+        mark = mixed(mark, value.1);
+    }
+    mark
+}
+
+// The mark of the features under the assignment for the ask with the number.
+fn mark_under(number: usize, bound: &[(u8, Value)], feats: &[Feat]) -> u64 {
+    let mut mark = number as u64;
+    for feat in feats {
+        mark = mixed(mark, term_value(bound, feat.1));
+    }
+    mark
+}
+
 fn is_cut(cut: &Cut, number: usize, values: &[(u16, Value)]) -> bool
     ensures ask { IsTrue result → cut.now.ask ≡ number }
     ensures values { IsTrue result → cut.now.values ≡ values.now }
@@ -35,8 +62,9 @@ fn is_cut(cut: &Cut, number: usize, values: &[(u16, Value)]) -> bool
 pub(crate) fn has_cut(cuts: &[Cut], number: usize, values: &[(u16, Value)]) -> bool
     ensures { result ≡ true → cutting.HasCut cuts.now number values.now }
 {
+    let mark = mark_of(number, values);
     for cut in cuts {
-        if is_cut(cut, number, values) {
+        if cut.mark == mark && is_cut(cut, number, values) {
             return true;
         }
     }
@@ -62,8 +90,9 @@ fn is_under(values: &[(u16, Value)], bound: &[(u8, Value)], feats: &[Feat]) -> b
 fn has_head(cuts: &[Cut], number: usize, bound: &[(u8, Value)], feats: &[Feat]) -> bool
     ensures { IsTrue result → cutting.HasCut cuts.now number (instances.feats_under bound.now feats.now) }
 {
+    let mark = mark_under(number, bound, feats);
     for cut in cuts {
-        if cut.ask == number && is_under(cut.values.as_slice(), bound, feats) {
+        if cut.mark == mark && cut.ask == number && is_under(cut.values.as_slice(), bound, feats) {
             return true;
         }
     }
@@ -118,11 +147,17 @@ fn is_extended(
 }
 
 // Adds the cut-off phrase with these values.
-pub(crate) fn push_cut(number: usize, values: TestValues, cuts: &mut List<Cut>) -> Result<(), Memory>
+pub(crate) fn push_cut(
+    number: usize,
+    values: TestValues,
+    cuts: &mut List<Cut>,
+) -> Result<(), Memory>
     ensures { OnOk result (cutting.HasOneMore number values cuts.old cuts.new) }
 {
+    let mark = mark_of(number, values.as_slice());
     cuts.push(Cut {
         ask: number,
+        mark,
         values,
     })?;
     Ok(())
@@ -142,12 +177,7 @@ fn push_head(
     requires settled { cutting.Settles rule.now bound.now }
     ensures { OnOk result (cutting.HasHeads setting.now rule.now (cutting.IsOf number (bound.now ∷ [])) cuts.old cuts.new) }
 {
-    if has_head(
-        cuts.as_slice(),
-        number,
-        bound,
-        rule.head.feats.as_slice(),
-    ) {
+    if has_head(cuts.as_slice(), number, bound, rule.head.feats.as_slice()) {
         return Ok(());
     }
     if is_possible(alloc, setting, rule, plan, bound)? {
@@ -528,15 +558,7 @@ fn push_cut_within(
     if bounds.is_empty() {
         return Ok(());
     }
-    push_heads(
-        alloc,
-        setting,
-        rule,
-        plan,
-        cut.ask,
-        bounds.as_slice(),
-        cuts,
-    )?;
+    push_heads(alloc, setting, rule, plan, cut.ask, bounds.as_slice(), cuts)?;
     Ok(())
 }
 

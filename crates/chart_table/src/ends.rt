@@ -91,12 +91,7 @@ fn added_since(alloc: Global, before: &Access, list: &Access) -> Result<Access, 
 }
 
 /// What is left of what a phrase of the rule has added to the list, in the memory of the list.
-pub fn tail_of(
-    alloc: Global,
-    rule: &Rule,
-    before: &Access,
-    list: &Access,
-) -> Result<Access, Memory>
+pub fn tail_of(alloc: Global, rule: &Rule, before: &Access, list: &Access) -> Result<Access, Memory>
     ensures { IfOk result (λ tail. tail ≡ ending.left_of rule.now (drop (length before.now) list.now)) }
 {
     let added = added_since(alloc, before, list)?;

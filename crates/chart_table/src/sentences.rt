@@ -13,8 +13,8 @@ ghost use Rattle.chart_table.specs.Table as tables;
 
 use crate::asks::Ask;
 use crate::choices::{Plan, plans_of};
-use crate::states::{Aim, Cut, End};
 use crate::rows::Rows;
+use crate::states::{Aim, Cut, End};
 use crate::table::{Row, row_of, token_count};
 use codeco_checked::{CheckedGrammar, FIRST_PLAIN};
 use derivation_trees::{Setting, readings_of};
@@ -95,11 +95,7 @@ fn is_beginning(alloc: Global, setting: &Setting<'_>) -> Result<bool, Memory>
 
 /// Whether the setting's tokens have a partial derivation, and whether they have a derivation, by one table. The plans are those
 /// of the grammar's rules.
-pub fn standing_of(
-    alloc: Global,
-    setting: &Setting<'_>,
-    plans: &[Plan],
-) -> Result<Standing, Memory>
+pub fn standing_of(alloc: Global, setting: &Setting<'_>, plans: &[Plan]) -> Result<Standing, Memory>
     requires plans { choosing.ArePlans setting.now plans.now }
     ensures begins { IfOk result (λ standing. IsTrue standing.begins ↔ ((cut : CutNode) × IsPartialDerivation setting.now cut)) }
     ensures derives { IfOk result (λ standing. IsTrue standing.derives ↔ ((tree : Node) × IsDerivation setting.now tree)) }

@@ -1,9 +1,9 @@
 // How large a table grows.
 use crate::asks::Ask;
 use crate::choices::plans_of;
+use crate::rows::Rows;
 use crate::sentences::DEEPEST;
 use crate::states::Aim;
-use crate::rows::Rows;
 use crate::table::{Row, row_of};
 use codeco_checked::FIRST_PLAIN;
 use derivation_trees::Setting;

@@ -30,10 +30,12 @@ pub(crate) struct End {
     pub(crate) tail: Access,
 }
 
-// A cut-off phrase: the number of an ask that its next element meets, and the values of the features that the head writes.
+// A cut-off phrase: the number of an ask that its next element meets, and the values of the features that the head writes. Equal
+// ones have one mark, by which others are passed over; nothing is concluded from it.
 #[derive(Drop)]
 pub(crate) struct Cut {
     pub(crate) ask: usize,
+    pub(crate) mark: u64,
     pub(crate) values: TestValues,
 }
 

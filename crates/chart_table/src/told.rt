@@ -43,15 +43,7 @@ fn told_by(
 {
     let bounds = meeting(alloc, values, category.feats.as_slice(), bound)?;
     let mut heads = List::new(alloc);
-    push_heads(
-        alloc,
-        setting,
-        rule,
-        plan,
-        0,
-        bounds.as_slice(),
-        &mut heads,
-    )?;
+    push_heads(alloc, setting, rule, plan, 0, bounds.as_slice(), &mut heads)?;
     Ok(Told {
         values: copy_values(alloc, values)?,
         heads,

@@ -16,9 +16,7 @@ ghost use Rattle.chart_trees.specs.Tables as tabled;
 
 use crate::outcomes::{Outcome, push_ended};
 use crate::paths::{Path, opened, push_joined, push_passed};
-use chart_table::{
-    Plan, Rows, leading_instances, plan_for, same_values,
-};
+use chart_table::{Plan, Rows, leading_instances, plan_for, same_values};
 use codeco_terms::{Category, Element, Rule, Value};
 use derivation_trees::{Setting, fits, under};
 use lists::List;

@@ -30,7 +30,8 @@ fn same_value(one: (u8, Value), other: (u8, Value)) -> bool
     one.0 == other.0 && one.1 == other.1
 }
 
-pub(crate) fn same_bound(values: &[(u8, Value)], others: &[(u8, Value)]) -> bool
+/// Whether the assignments are the same, in the same order.
+pub fn same_bound(values: &[(u8, Value)], others: &[(u8, Value)]) -> bool
     ensures { IsTrue result → values.now ≡ others.now }
 {
     if values.len() != others.len() {

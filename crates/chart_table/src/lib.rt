@@ -22,7 +22,7 @@ mod told;
 pub use asks::Ask;
 pub use choices::{Plan, plan_for, plans_of};
 pub use ends::{is_instance, tail_of};
-pub use instances::leading_instances;
+pub use instances::{leading_instances, same_bound};
 pub use rows::Rows;
 pub use sameness::same_values;
 pub use sentences::{Standing, begins, has_derivation, may_follow, standing_of};

@@ -3,6 +3,7 @@ pub mod OrderLemmas
 pub mod PathLemmas
 pub mod WayLemmas
 pub mod OutcomeLemmas
+pub mod EarliestLemmas
 pub mod TableLemmas
 pub mod CodeLemmas
 pub mod LeastLemmas

@@ -67,7 +67,7 @@ best_alike s asked place one other outcomes same best = record { sound = sound; 
 
 -- where an outcome belongs
 
-among_at : {X : Type 0} (xs : List X) (i : ℕ) (x d : X) → i < length xs → x ≡ get_or xs i d → Among xs x
+pub among_at : {X : Type 0} (xs : List X) (i : ℕ) (x d : X) → i < length xs → x ≡ get_or xs i d → Among xs x
 among_at [] i x d lt is = absurd (omega arith)
 among_at (y ∷ ys) zero x d lt is = inl is
 among_at (y ∷ ys) (suc i) x d lt is = inr (among_at ys i x d (omega arith) is)
@@ -103,19 +103,19 @@ put_free x before after e = subst (IsPut x before) (sym e) (record {
     by o (inr (inl m)) = inr m
     by o (inr (inr m)) = absurd m
 
-set_among : (xs : List Outcome) (i : ℕ) (x o : Outcome) → Among (slice_set xs i x) o → Among xs o ⊎ (o ≡ x)
+pub set_among : {X : Type 0} (xs : List X) (i : ℕ) (x o : X) → Among (slice_set xs i x) o → Among xs o ⊎ (o ≡ x)
 set_among [] i x o m = absurd m
 set_among (y ∷ ys) zero x o (inl m) = inr m
 set_among (y ∷ ys) zero x o (inr m) = inl (inr m)
 set_among (y ∷ ys) (suc i) x o (inl m) = inl (inl m)
 set_among (y ∷ ys) (suc i) x o (inr m) = elim (set_among ys i x o m) [ inl k ↦ inl (inr k) | inr k ↦ inr k ]
 
-set_has : (xs : List Outcome) (i : ℕ) (x old : Outcome) → slice_get xs i ≡ Some old → Among (slice_set xs i x) x
+pub set_has : {X : Type 0} (xs : List X) (i : ℕ) (x old : X) → slice_get xs i ≡ Some old → Among (slice_set xs i x) x
 set_has [] i x old h = cc
 set_has (y ∷ ys) zero x old h = inl refl
 set_has (y ∷ ys) (suc i) x old h = inr (set_has ys i x old h)
 
-set_keeps : (xs : List Outcome) (i : ℕ) (x old o : Outcome) → slice_get xs i ≡ Some old → Among xs o → Among (slice_set xs i x) o ⊎ (o ≡ old)
+pub set_keeps : {X : Type 0} (xs : List X) (i : ℕ) (x old o : X) → slice_get xs i ≡ Some old → Among xs o → Among (slice_set xs i x) o ⊎ (o ≡ old)
 set_keeps [] i x old o h m = absurd m
 set_keeps (y ∷ ys) zero x old o h (inl m) = inr (m ∙ same_Some y old h)
 set_keeps (y ∷ ys) zero x old o h (inr m) = inl (inr m)

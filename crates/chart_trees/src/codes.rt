@@ -48,6 +48,15 @@ pub(crate) fn code_of(alloc: Global, tree: &Tree) -> Result<List<u16>, Memory>
     Ok(code)
 }
 
+// The codes of the trees, one after another.
+pub(crate) fn codes_of(alloc: Global, trees: &Trees) -> Result<List<u16>, Memory>
+    ensures { IfOk result (λ code. code ≡ codes (nodes_of trees.now)) }
+{
+    let mut code = List::new(alloc);
+    push_codes(trees, &mut code)?;
+    Ok(code)
+}
+
 // Whether the one is lower where the two first differ.
 pub(crate) fn is_lower(one: &[u16], other: &[u16]) -> bool
     ensures { IsTrue result → Lower one.now other.now }

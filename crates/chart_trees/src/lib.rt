@@ -3,6 +3,7 @@
 
 mod charts;
 mod codes;
+mod earliest;
 mod outcomes;
 mod paths;
 mod skeletons;

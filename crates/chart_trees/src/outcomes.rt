@@ -27,7 +27,7 @@ pub(crate) struct Outcome {
 // Where an outcome belongs among others: nowhere, since one with its end is as low; in the place of one with its end that
 // isn't; or at the end.
 #[derive(Drop)]
-enum Seat {
+pub(crate) enum Seat {
     Taken,
     At(usize),
     Free,

@@ -14,6 +14,7 @@ ghost use Rattle.chart_trees.specs.Ways as ways;
 ghost use Rattle.chart_trees.specs.Outcomes as ends;
 ghost use Rattle.chart_trees.specs.Tables as tabled;
 
+use crate::earliest::earliest;
 use crate::outcomes::{Outcome, push_ended};
 use crate::paths::{Path, opened, push_joined, push_passed};
 use chart_table::{Plan, Rows, leading_instances, plan_for, same_values};
@@ -404,7 +405,8 @@ fn step_all(
             alloc, setting, plans, tables, depth, values, element, path, &mut out,
         )?;
     }
-    Ok(out)
+    let left = earliest(alloc, out)?;
+    Ok(left)
 }
 
 // Adds the paths after one element.

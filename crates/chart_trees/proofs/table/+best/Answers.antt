@@ -2,6 +2,7 @@ use Rattle.std.proofs.Common.{◌<◌, ◌++◌, ◌∷◌, [], length, map, ref
 use Rattle.std.proofs.lemmas.Option.{slice_get_within}
 use Rattle.derivation_trees.proofs.StandLemmas.{not_sub}
 use Rattle.chart_trees.specs.Paths.{path_of}
+use Rattle.chart_trees.proofs.EarliestLemmas.{steps_left}
 use Rattle.chart_trees.specs.Ways.{AreReached, AreStepsOf}
 use Rattle.chart_trees.specs.Outcomes.{HasEnded}
 use Rattle.codeco_terms.specs.declared.elements.Element.TheVariants.{Sub}
@@ -159,8 +160,9 @@ step_all-loop-path-preserved t c = record {
 
 pub step_all-returns-clause-steps : goal.step_all-returns-clause-steps
 step_all-returns-clause-steps t c =
-    steps_done c.args.setting.now c.args.values.now c.args.element.now c.args.paths.now c.loop-path.path-index (map path_of c.loop-path.out)
-    c.loop-path-test.false c.loop-path.invariant.steps
+    steps_left c.args.setting.now c.args.values.now c.args.element.now (map path_of c.args.paths.now) c.loop-path.out c.in_ok-left.left
+    (steps_done c.args.setting.now c.args.values.now c.args.element.now c.args.paths.now c.loop-path.path-index (map path_of c.loop-path.out)
+    c.loop-path-test.false c.loop-path.invariant.steps) c.in_ok-left.ensures
 
 pub push_steps-returns-in_ok-push_child-in-Sub : goal.push_steps-returns-in_ok-push_child-in-Sub
 push_steps-returns-in_ok-push_child-in-Sub t c = record {

@@ -1,5 +1,5 @@
-// Makes the menu after tokens like `Mary sees something that sees something that`, 10 and 40, with 5,000 words in the lexicon. With
-// the word `time` it also tells how much processor time the last token and the menu took, and how much memory at most there was.
+// Makes the menu after tokens like `Mary sees something that sees something that`, 10 and 40, with 5,000 words in the lexicon, and
+// after 40 tokens that have millions of derivations by grammars of a few rules. With the word `time` it also tells how much processor time the last token and the menu took, and how much memory at most there was.
 
 ghost use Rattle.std.specs.Prelude.{◌≡◌, ◌<◌, length, IfOk, OnOk};
 ghost use Rattle.wiki_base.specs.declared.tokens.TheConstants.{MOST_TOKENS};
@@ -10,6 +10,7 @@ use crate::words::{add, tokens_of};
 use ace_grammar::built_in;
 use chart::Chart;
 use codeco_checked::CheckedGrammar;
+use codeco_reader::read_grammar;
 use lexicon::{Kind, Lexicon};
 use std::alloc::Global;
 use std::fs;
@@ -268,9 +269,43 @@ fn run_all(
     run_shape(rt, grammar, lexicon, &PARTS, timed)
 }
 
+// A grammar by which forty `x` have many derivations, millions and more.
+struct Manifold {
+    name: &'static str,
+    text: &'static str,
+}
+
+const MANIFOLDS: [Manifold; 3] = [
+    Manifold {
+        name: "eight in a row",
+        text: "text --> a a a a a a a a [e]. a --> [x]. a --> [x] a.",
+    },
+    Manifold {
+        name: "twelve in a row",
+        text: "text --> a a a a a a a a a a a a [e]. a --> [x]. a --> [x] a.",
+    },
+    Manifold {
+        name: "two ways for each token",
+        text: "text --> s [e]. s --> b. s --> b s. b --> c. b --> d. c --> [x]. d --> [x].",
+    },
+];
+
+fn run_manifold(rt: &HostRuntime, manifold: &Manifold, timed: bool) -> Result<(), Fault> {
+    let name = manifold.name;
+    println!(rt; "{name}")?;
+    let grammar = read_grammar(rt.alloc(), manifold.text)?;
+    let lexicon = words(rt.alloc(), &grammar)?;
+    let text = text_of(rt.alloc(), "x", " x", "", 39)?;
+    run_text(rt, &grammar, &lexicon, text.as_str(), timed)
+}
+
 pub(crate) fn measure(rt: &HostRuntime, timed: bool) -> Result<(), Fault> {
     let grammar = built_in(rt.alloc())?;
-    run_with_words(rt, &grammar, timed)
+    run_with_words(rt, &grammar, timed)?;
+    for manifold in &MANIFOLDS {
+        run_manifold(rt, manifold, timed)?;
+    }
+    Ok(())
 }
 
 fn run_with_words(rt: &HostRuntime, grammar: &CheckedGrammar, timed: bool) -> Result<(), Fault> {

@@ -1,5 +1,5 @@
 -- Two words without a form among the tokens may change places, and a last token that brings no new word may be any other.
-use Rattle.std.proofs.Common.{◌≡◌, ℕ, ◌-◌, ◌<◌, List, [], ◌∷◌, ◌++◌, Bool, true, false, ◌&&◌, ◌||◌, map, length, length-append, Some, None, refl, sym, ap, ◌∙◌, subst, nat_lt}
+use Rattle.std.proofs.Common.{◌≡◌, ℕ, ◌-◌, ◌<◌, List, [], ◌∷◌, Bool, true, false, ◌&&◌, ◌||◌, map, length, length-append, Some, None, refl, sym, ap, ◌∙◌, subst, nat_lt}
 use Rattle.std.specs.Prelude.{if◌then◌else◌, ◌==◌, not, option_map, slice_get}
 use Rattle.std.specs.Option.{option_map_or}
 use Rattle.std.specs.List.{list_any, list_all}

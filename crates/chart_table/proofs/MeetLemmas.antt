@@ -1,12 +1,11 @@
 -- How one assignment meets values, feature by feature.
-use Rattle.std.proofs.Common.{◌≡◌, ℕ, ◌+◌, ◌<◌, ◌≤◌, List, [], ◌∷◌, ◌++◌, map, length, take, drop, get_or, Bool, true, false, Some, None, Option, refl, sym, ap, ◌∙◌}
+use Rattle.std.proofs.Common.{◌≡◌, ℕ, ◌+◌, ◌<◌, List, [], ◌∷◌, ◌++◌, length, take, drop, get_or, Bool, true, false, refl, ap, ◌∙◌}
 use Rattle.std.specs.Prelude.{if◌then◌else◌, ◌==◌}
-use Rattle.std.specs.List.{flat_map, filter_map, cons_option}
-use Rattle.std.proofs.lemmas.List.{drop_more, drop_all, map-append, take_more, append-nil}
+use Rattle.std.proofs.lemmas.List.{drop_more, map-append, take_more, append-nil}
 use Rattle.codeco_terms.specs.declared.values.Value.{Value}
 use Rattle.codeco_terms.specs.declared.values.Term.{Term}
 use Rattle.codeco_terms.specs.declared.values.Term.TheVariants.{Var}
-use Rattle.chart_table.specs.Branches.{bound_term, restricted, meeting_one, meeting, chosen_for, closing, one_if}
+use Rattle.chart_table.specs.Branches.{restricted, meeting_one, meeting, chosen_for, closing}
 use Rattle.chart_table.specs.Ends.{as_terms}
 
 abbrev pub Binds : Type 0

@@ -1,7 +1,6 @@
 -- Lists of states with equal ones left out.
 use Rattle.std.proofs.Common.{◌≡◌, ℕ, ◌<◌, List, [], ◌∷◌, ◌++◌, length, get_or, Some, sym, ap, ◌∙◌, subst, inl, inr, ◌⊎◌}
 use Rattle.std.proofs.lemmas.Option.{slice_get-get_or}
-use Rattle.codeco_terms.specs.declared.values.Value.{Value}
 use Rattle.codeco_terms.specs.declared.elements.Element.{Element}
 use Rattle.codeco_terms.specs.declared.rules.Rule.{Rule}
 use Rattle.derivation_trees.specs.Settings.{Setting}
@@ -35,7 +34,8 @@ covers_of v at [] state one (inl h) = absurd one
 covers_of v at (x ∷ xs) state (inl is) (inl h) = inl (subst (λ y. Extends v y.binds × (at_of y ≡ at)) (sym is) h)
 covers_of v at (x ∷ xs) state (inr one) (inl h) = inr (covers_of v at xs state one (inl h))
 
-pub state_there : (states : List State) (i : ℕ) (state other : State) → i < length states → state ≡ get_or states i state → state ≡ other → HasState states other
+pub state_there : (states : List State) (i : ℕ) (state other : State) → i < length states → state ≡ get_or states i state → state ≡ other → HasState states
+    other
 state_there states i state other lt is same v at h =
     covers_of v at states state (one_of_slice states i state (slice_get-get_or states i state lt ∙ ap Some (sym is)))
     (subst (λ x. Covers v at (x ∷ [])) (sym same) h)

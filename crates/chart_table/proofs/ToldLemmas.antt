@@ -3,9 +3,7 @@ use Rattle.std.proofs.Common.{◌≡◌, ℕ, ◌+◌, ◌<◌, ◌≤◌, List,
 use Rattle.std.specs.Prelude.{slice_get, All, true, ◌⊎◌}
 use Rattle.std.proofs.lemmas.Option.{slice_get-get_or}
 use Rattle.std.proofs.lemmas.List.{take_all}
-use Rattle.std.proofs.lemmas.List.Elements.{All-push}
 use Rattle.wiki_base.proofs.ListLaws.{take_get_or}
-use Rattle.codeco_terms.specs.declared.values.Value.{Value}
 use Rattle.codeco_terms.specs.declared.categories.Category.{Category}
 use Rattle.codeco_terms.specs.declared.rules.Rule.{Rule}
 use Rattle.derivation_trees.specs.Settings.{Setting}
@@ -13,7 +11,7 @@ use Rattle.derivation_trees.specs.Instances.{feats_under, is_instance}
 use Rattle.chart_table.specs.declared.states.Cut.{Cut}
 use Rattle.chart_table.specs.declared.states.Told.{Told}
 use Rattle.chart_table.specs.Branches.{OneOf, AnyExtends, meeting}
-use Rattle.chart_table.specs.Cuts.{HasCut, HasHeads, IsOf, HasOneMore, HasCopies, IsTold, IsTelling, within_binds}
+use Rattle.chart_table.specs.Cuts.{HasCut, HasHeads, IsOf, HasOneMore, HasCopies, IsTold, IsTelling}
 use Rattle.chart_table.proofs.BranchLemmas.{Binds}
 use Rattle.chart_table.proofs.OneOfLemmas.{one_left, one_front, one_last}
 use Rattle.chart_table.proofs.TableLemmas.{all_slice, slice_end}
@@ -114,7 +112,8 @@ copies_tell s rule bounds number heads before after told copies = record {
     found : (j : ℕ) (v : Binds) → IsOf number bounds j v → HasCut heads 0 (feats_under v rule.head.feats) → HasCut after j (feats_under v rule.head.feats)
     found j v of h = subst (λ n. HasCut after n (feats_under v rule.head.feats)) (sym of.0) (subst (HasCut after number) h.3 (copies.new h.0 h.1))
 
-    from : (e : Cut) → OneOf heads e → HasCut [] e.ask e.values ⊎ ((v : Binds) × (is_instance s rule v ≡ true) × IsOf 0 bounds e.ask v × (e.values ≡ feats_under v rule.head.feats))
+    from : (e : Cut) → OneOf heads e → HasCut [] e.ask e.values ⊎ ((v : Binds) × (is_instance s rule v ≡ true) × IsOf 0 bounds e.ask v ×
+        (e.values ≡ feats_under v rule.head.feats))
         → (v : Binds) × (is_instance s rule v ≡ true) × AnyExtends v bounds × (e.values ≡ feats_under v rule.head.feats)
     from e one (inl h) = absurd h.1
     from e one (inr h) = (h.0, h.1, h.2.1, h.3)

@@ -1,10 +1,9 @@
 -- Lists of states that cover the same places and lists. Only private calls speak of it.
-use Rattle.std.specs.Prelude.{◌≡◌, ℕ, List, [], ◌∷◌, ◌⊎◌}
+use Rattle.std.specs.Prelude.{ℕ, List, [], ◌∷◌, ◌⊎◌}
 use Rattle.codeco_terms.specs.declared.values.Value.{Value}
 use Rattle.derivation_trees.specs.Derives.{At}
 use Rattle.chart_table.specs.declared.states.State.{State}
-use Rattle.chart_table.specs.Branches.{Extends}
-use Rattle.chart_table.specs.Steps.{at_of, Covers}
+use Rattle.chart_table.specs.Steps.{Covers}
 
 -- where the state covers, one of the states does
 abbrev pub HasState : List State → State → Type 0

@@ -132,7 +132,11 @@ stand_same paths = record { sound = λ p m. m; least = λ p m. stands_itself pat
 -- paths that stand for the steps are steps
 pub steps_left : (s : Setting) (values : List (ℕ × Value)) (e : Element) (paths : List enumeration.Path) (news left : List Path)
     → AreStepsOf s values e paths (map path_of news) → StandFor news left → AreStepsOf s values e paths (map path_of left)
-steps_left s values e paths news left steps stand = record { sound = λ x m. sound x (from_map path_of left x m); least = λ p q x m less led. least p q x m less led }
+steps_left s values e paths news left steps stand = record {
+  sound = λ x m. sound x (from_map path_of left x m);
+  least = λ p q x m less led. least p q x m
+      less led;
+}
   where
     sound : (x : enumeration.Path) → Mapped path_of left x → (p : enumeration.Path) × Among paths p × StepTo s values e p x
     sound x one =

@@ -1,5 +1,5 @@
 -- Paths that stand for others. Only private calls speak of it.
-use Rattle.std.specs.Prelude.{◌≡◌, ℕ, List, slice_get, Some, ◌⊎◌}
+use Rattle.std.specs.Prelude.{◌≡◌, List, slice_get, Some, ◌⊎◌}
 use Rattle.derivations.specs.Among.{Among}
 use Rattle.derivations.specs.Enumeration as enumeration
 use Rattle.chart_trees.specs.declared.outcomes.Seat.{Seat}

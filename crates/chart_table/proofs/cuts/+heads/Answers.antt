@@ -1,8 +1,4 @@
-use Rattle.std.proofs.Common.{◌∙◌, sym, ap, subst}
-use Rattle.chart_table.specs.Branches.{bound_term}
-use Rattle.chart_table.specs.Cuts.{HasHeads, IsOf}
-use Rattle.chart_table.proofs.HeadLemmas.{of_none}
-use Rattle.chart_table.proofs.SettleLemmas.{value_turn, values_none, values_done}
+use Rattle.chart_table.proofs.SettleLemmas.{value_turn, values_done}
 use Rattle.chart_table.proofs.cuts.+heads.Goals as goal
 
 pub push_each-loop-value-preserved : goal.push_each-loop-value-preserved

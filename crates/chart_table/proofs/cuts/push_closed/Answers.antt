@@ -9,7 +9,8 @@ pub push_settled-requires-clause-settled : goal.push_settled-requires-clause-set
 push_settled-requires-clause-settled c =
     let plan = c.args.plan.now in
     subst (AllSettle c.args.rule.now) (sym c.as_slice-2.ensures)
-    (all_settle c.args.rule.now (choices c.args.setting.now plan.terms plan.places plan.own) c.as_slice.result.now (c.args.bound.now ∷ []) c.in_ok-settled.settled
+    (all_settle c.args.rule.now (choices c.args.setting.now plan.terms plan.places plan.own) c.as_slice.result.now (c.args.bound.now ∷ [])
+    c.in_ok-settled.settled
     c.as_slice.ensures
     (c.in_ok-settled.ensures ∙ ap (closing (choices c.args.setting.now plan.terms plan.places plan.own) c.as_slice.result.now) c.in_ok-one.ensures))
 

@@ -5,7 +5,27 @@ use Rattle.chart_table.proofs.TurnLemmas.{steps_turn, steps_done}
 use Rattle.chart_table.proofs.CutLemmas.{after_none}
 use Rattle.chart_table.proofs.MergeLemmas.{steps_alike}
 use Rattle.chart_table.proofs.HeadLemmas.{cut_before_none, heads_turn, heads_done, among_none, enters_not, all_after_last, rule_cut, cut_rule_turn, start_cuts}
-use Rattle.chart_table.proofs.CycleLemmas.{row_found, row_returned, rows_returned, finished_same, start_steps, start_rules, rule_turn, rules_done, cuts_done, rule_pushed, after_turn, after_done, cut_turn, cut_done, plain_state, category_returned, category_cut, heads_same, not_category}
+use Rattle.chart_table.proofs.CycleLemmas.{
+  row_found,
+  row_returned,
+  rows_returned,
+  finished_same,
+  start_steps,
+  start_rules,
+  rule_turn,
+  rules_done,
+  cuts_done,
+  rule_pushed,
+  after_turn,
+  after_done,
+  cut_turn,
+  cut_done,
+  plain_state,
+  category_returned,
+  category_cut,
+  heads_same,
+  not_category,
+}
 use Rattle.chart_table.specs.Steps.{starting}
 use Rattle.chart_table.specs.Branches.{known_features}
 use Rattle.chart_table.specs.Cuts.{HasHeads, Among, Halts, Enters}
@@ -60,7 +80,8 @@ row_of-returns-clause-rows t c =
       ends = c.in_ok-ends.ends;
       cuts = c.category_ends.new.cuts;
       older = c.newest_at-2.result;
-    }) c.as_slice-3.result.now c.args.list c.in_ok-number.ensures.rows c.as_slice-3.ensures refl c.in_ok-ends.ensures.rows c.in_ok-ends.ensures.ends c.in_ok-ends.ensures.cuts
+    }) c.as_slice-3.result.now c.args.list c.in_ok-number.ensures.rows c.as_slice-3.ensures refl c.in_ok-ends.ensures.rows c.in_ok-ends.ensures.ends
+    c.in_ok-ends.ensures.cuts
 
 pub row_of-returns-clause-row : goal.row_of-returns-clause-row
 row_of-returns-clause-row t c =

@@ -1,4 +1,4 @@
-use Rattle.std.proofs.Common.{◌∙◌, sym, subst}
+use Rattle.std.proofs.Common.{◌∙◌, subst}
 use Rattle.chart_table.specs.Cuts.{HasCut}
 use Rattle.chart_table.proofs.ToldLemmas.{copies_there, copies_added}
 use Rattle.chart_table.proofs.told.push_copy.Goals as goal

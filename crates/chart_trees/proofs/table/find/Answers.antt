@@ -1,4 +1,4 @@
-use Rattle.std.proofs.Common.{◌≡◌, ◌-◌, arith}
+use Rattle.std.proofs.Common.{◌-◌, arith}
 use Rattle.chart_trees.proofs.TableLemmas.{found_here}
 use Rattle.chart_trees.proofs.table.find.Goals as goal
 

@@ -18,5 +18,6 @@ invariant_of-result c =
     c.from_vec-readings.ensures ∙ c.in_ok-readings_of.ensures ∙ ap (map f) c.as_slice-4.ensures in
     let plans : c.in_ok-clone.field-0.value ≡ c.self.inside.plans.value = c.in_ok-clone.ensures.cases in
     subst (λ p. IsChart (setting c.in_ok-copy.field-0 c.in_ok-tokens.tokens c.from_vec-readings.result) p c.in_ok-derives.derives) (sym plans)
-    (chart_unchanged s c.self.inside.plans.value c.self.inside.derives f n c.in_ok-copy.field-0 c.in_ok-tokens.tokens c.from_vec-readings.result c.in_ok-derives.derives
+    (chart_unchanged s c.self.inside.plans.value c.self.inside.derives f n c.in_ok-copy.field-0 c.in_ok-tokens.tokens c.from_vec-readings.result
+    c.in_ok-derives.derives
     c.in_ok-copy.ensures tokens read same derives within c.self.invariant)

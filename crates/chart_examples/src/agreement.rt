@@ -14,7 +14,7 @@ use std::alloc::Global;
 use std::test::Fail;
 use wiki_base::{Token, Tokens};
 
-fn same_entries(menu: &Menu<'_>, other: &Menu<'_>) -> bool {
+pub(crate) fn same_entries(menu: &Menu<'_>, other: &Menu<'_>) -> bool {
     if menu.len() != other.len() {
         return false;
     }
@@ -71,7 +71,7 @@ fn same_menu(
 }
 
 // Takes the tokens into the chart, and tells how many of them are typeable.
-fn grow(
+pub(crate) fn grow(
     chart: &mut Chart,
     grammar: &CheckedGrammar,
     lexicon: &Lexicon,

@@ -9,6 +9,8 @@ mod short_lists;
 #[cfg(test)]
 mod sizes;
 #[cfg(test)]
+mod taken_back;
+#[cfg(test)]
 mod worked;
 
 pub use agreement::difference;

@@ -102,8 +102,14 @@ pub const AMBIGUOUS: Oddity = Oddity {
     tokens: &["x", "e"],
 };
 
+/// Many of one category stand in a row, and tokens can be shared out among them in many ways.
+pub const MANY_IN_A_ROW: Oddity = Oddity {
+    grammar: "text --> a a a [e]. a --> [x]. a --> [x] a.",
+    tokens: &["x", "e"],
+};
+
 /// All of them.
-pub const ODD: [&Oddity; 13] = [
+pub const ODD: [&Oddity; 14] = [
     &TWICE_IN_A_CATEGORY,
     &TWICE_IN_A_HEAD,
     &OPEN_TEST,
@@ -117,16 +123,22 @@ pub const ODD: [&Oddity; 13] = [
     &AGREEING,
     &OTHER_WORD,
     &AMBIGUOUS,
+    &MANY_IN_A_ROW,
 ];
 
-const NOUNS: [(Kind, &[&str]); 3] = [
+pub(crate) const NOUNS: [(Kind, &[&str]); 3] = [
     (Kind::Noun, &["ox", "oxen"]),
     (Kind::Noun, &["sheep", "sheep"]),
     (Kind::Noun, &["cat", "cats"]),
 ];
 
 // The text of so many of the tokens; the number, by its digits, tells of which.
-fn text_with(alloc: Global, tokens: &[&str], number: usize, length: usize) -> Result<String, Fail> {
+pub(crate) fn text_with(
+    alloc: Global,
+    tokens: &[&str],
+    number: usize,
+    length: usize,
+) -> Result<String, Fail> {
     let mut text = String::new(alloc);
     let mut left = number;
     for _ in 0..length {

@@ -1,8 +1,9 @@
 // On all lists of up to three tokens of the small grammars the chart agrees with the listing; those of four are `sentence_examples`'.
+// Where many of one category stand in a row, lists of three tokens are too short to share out.
 use crate::odd::{
-    AGREEING, AMBIGUOUS, LEFT_OUT, MARKED_TWICE, NEGATIVE, NESTED_OPENERS, OPEN_TEST, OTHER_WORD,
-    Oddity, PLACE_TO_COME, PLACES, TWICE_IN_A_CATEGORY, TWICE_IN_A_HEAD, WORD_TO_COME,
-    difference_on_lists,
+    AGREEING, AMBIGUOUS, LEFT_OUT, MANY_IN_A_ROW, MARKED_TWICE, NEGATIVE, NESTED_OPENERS,
+    OPEN_TEST, OTHER_WORD, Oddity, PLACE_TO_COME, PLACES, TWICE_IN_A_CATEGORY, TWICE_IN_A_HEAD,
+    WORD_TO_COME, difference_on_lists,
 };
 use std::alloc::Global;
 use std::process::Abort;
@@ -10,8 +11,15 @@ use std::test::Fail;
 
 const LONGEST: usize = 3;
 
+/// With six tokens there are six ways to share out those before `e`.
+const LONGEST_IN_A_ROW: usize = 6;
+
 fn agrees(rt: &impl Abort, alloc: Global, odd: &Oddity) -> Result<(), Fail> {
-    for length in 0..LONGEST + 1 {
+    agrees_up_to(rt, alloc, odd, LONGEST)
+}
+
+fn agrees_up_to(rt: &impl Abort, alloc: Global, odd: &Oddity, longest: usize) -> Result<(), Fail> {
+    for length in 0..longest.saturating_add(1) {
         let other = difference_on_lists(alloc, odd, length)?;
         assert!(rt; other.is_none(), "the chart and the listing differ");
     }
@@ -81,4 +89,9 @@ fn a_word_may_have_to_be_new_or_the_same(rt: HostRuntime) -> Result<(), Fail> {
 #[test]
 fn tokens_may_have_many_trees(rt: HostRuntime) -> Result<(), Fail> {
     agrees(&rt, rt.alloc(), &AMBIGUOUS)
+}
+
+#[test]
+fn tokens_may_be_shared_out_in_many_ways(rt: HostRuntime) -> Result<(), Fail> {
+    agrees_up_to(&rt, rt.alloc(), &MANY_IN_A_ROW, LONGEST_IN_A_ROW)
 }

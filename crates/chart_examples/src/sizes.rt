@@ -1,7 +1,7 @@
 // How large the table is.
 ghost use Rattle.std.specs.Prelude.{◌≤◌, length};
 
-use crate::cases::{tokens_of, words};
+use crate::cases::{grammar_of, tokens_of, words};
 use ace_grammar::built_in;
 use chart_table::{Ask, Size, table_size};
 use codeco_checked::CheckedGrammar;
@@ -103,4 +103,46 @@ fn each_stays_small(rt: &impl Abort, alloc: Global, grammar: &CheckedGrammar) ->
 fn a_table_of_forty_tokens_has_under_three_thousand_states(rt: HostRuntime) -> Result<(), Fail> {
     let grammar = built_in(rt.alloc())?;
     each_stays_small(&rt, rt.alloc(), &grammar)
+}
+
+// Forty times `x`.
+const FORTY: &str =
+    "x x x x x x x x x x x x x x x x x x x x x x x x x x x x x x x x x x x x x x x x";
+
+// Grammars with eight and with twelve of one category in a row, and with six of them within another one: forty tokens can be
+// shared out among these in 15 million, in 1,676 million and in half a million ways.
+const IN_A_ROW: [&str; 3] = [
+    "text --> a a a a a a a a [e]. a --> [x]. a --> [x] a.",
+    "text --> a a a a a a a a a a a a [e]. a --> [x]. a --> [x] a.",
+    "text --> s [e]. s --> a a a a a a. a --> [x]. a --> [x] a.",
+];
+
+fn size_without_words(alloc: Global, grammar: &CheckedGrammar) -> Result<Size, Fail> {
+    let lexicon = words(alloc, grammar, &[])?;
+    size_of(alloc, grammar, &lexicon, FORTY)
+}
+
+// The table has far fewer states than there are ways to share out the tokens.
+fn stays_small_in_a_row(rt: &impl Abort, alloc: Global, grammar: &str) -> Result<(), Fail> {
+    let checked = grammar_of(alloc, grammar)?;
+    let size = size_without_words(alloc, &checked)?;
+    assert!(rt;
+        40 <= size.rows && size.rows < 200,
+        "{} rows for {grammar}",
+        size.rows
+    );
+    assert!(rt;
+        40 <= size.states && size.states < 10_000,
+        "{} states for {grammar}",
+        size.states
+    );
+    Ok(())
+}
+
+#[test]
+fn states_are_not_as_many_as_ways_to_share_out_tokens(rt: HostRuntime) -> Result<(), Fail> {
+    for grammar in IN_A_ROW {
+        stays_small_in_a_row(&rt, rt.alloc(), grammar)?;
+    }
+    Ok(())
 }

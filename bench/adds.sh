@@ -5,7 +5,7 @@
 # last; then what all adds took, and the most memory. WORD stands in the names of the rows that are run, if not all are. Then
 # Konclude (Debian's package `konclude`), with two threads, checks the axioms of all sentences, the last one included:
 # milliseconds as it tells them, without the reading of the file and in all, and what it finds.
-# The last rows are of wikis that are drawn by the seeds from SEED (0) on (tests/drawn.py): COUNT (300) of 50 to 300 sentences of all
+# The last rows are of wikis that are drawn by the seeds from SEED (0) on (tests/drawn.py): COUNT (20) of 50 to 300 sentences of all
 # kinds, and two thirds as many of 500 to 2,000 sentences that leave no choice. They run once, with the numbers over all their
 # adds, and a wiki ends at an add that takes over ten seconds. Konclude is asked of what each wiki asserts, for which its median
 # and its most milliseconds are told, and of what is known together with each sentence that is red for the budget, or was given
@@ -15,7 +15,7 @@ set -eu
 root="$(cd "$(dirname "${BASH_SOURCE[0]}")/.." && pwd)"
 program="${PROGRAM:-$("$root/bench/program" acewiki)}"
 echo "load $(cut -d' ' -f1-3 /proc/loadavg)"
-PYTHONPATH="$root/tests" PYTHONDONTWRITEBYTECODE=1 python3 - "$program" "${1:-}" "${2:-300}" "${3:-0}" <<'PY'
+PYTHONPATH="$root/tests" PYTHONDONTWRITEBYTECODE=1 python3 - "$program" "${1:-}" "${2:-20}" "${3:-0}" <<'PY'
 import json, re, select, shutil, statistics, subprocess, sys, tempfile
 from drawn import every_construct, without_choices
 from sharing import WIKIS, levels, letters, noun, wiki, word

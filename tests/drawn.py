@@ -45,13 +45,15 @@ class LargeDraws(SmallDraws):
 
 
 def every_construct(seed):
-    """The words and 50 to 300 sentences of a wiki. Sentences on everything are rare in some, since they leave others little to choose."""
+    """The words and 50 to 300 sentences of a wiki. Sentences on everything are rare in some, since they leave others little to choose,
+    and so are those on verbs: with many of them each verb is soon transitive and symmetric."""
     draw = random.Random(seed)
     draws = LargeDraws(draw, drawn_words(draw, draw.randint(5, 60), draw.randint(2, 8), draw.randint(3, 40)))
-    count, on_everything, sentences = draw.randint(50, 300), draw.choice([0, 0.1, 1]), []
+    count, on_everything, on_verbs, sentences = draw.randint(50, 300), draw.choice([0, 0.1, 1]), draw.choice([0, 0.1, 1]), []
     while len(sentences) < count:
         text = draws.sentence()[0]
-        if text.split()[0] not in ("Everything", "Nothing", "Something") or draw.random() < on_everything:
+        first = text.split()[0]
+        if draw.random() < (on_verbs if first == "If" else on_everything if first in ("Everything", "Nothing", "Something") else 1):
             sentences.append(text)
     return draws.words, [dict(do="add", article="nounaaa", text=text) for text in sentences]
 

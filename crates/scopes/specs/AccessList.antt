@@ -31,6 +31,7 @@ referents (Strong referent pos ∷ rest) = Strong referent pos ∷ referents res
 abbrev pub introduced : Ground → ℕ → Bool → Entry
 introduced referent pos strong = if strong then Strong referent pos else Weak referent pos
 
+-- the entry opens a scope
 abbrev pub is_opener : Entry → Bool
 is_opener Opener = true
 is_opener (Weak referent pos) = false

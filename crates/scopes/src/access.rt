@@ -1,5 +1,5 @@
 // Access lists, shared by their tails.
-ghost use Rattle.std.specs.Prelude.{◌≡◌, ◌==◌, ◌+◌, ◌-◌, ◌<◌, ◌≤◌, ◌||◌, [], ◌∷◌, ◌++◌, IfOk, IsTrue, Some, option_map, length, slice_get, take, drop, not};
+ghost use Rattle.std.specs.Prelude.{◌≡◌, ◌↔◌, ◌==◌, ◌+◌, ◌-◌, ◌<◌, ◌≤◌, ◌||◌, [], ◌∷◌, ◌++◌, IfOk, IsTrue, Some, option_map, length, slice_get, take, drop, not};
 ghost use Rattle.scopes.specs.declared.entries.Entry.{Entry};
 ghost use Rattle.scopes.specs.declared.entries.Entry.TheVariants.{Opener};
 ghost use Rattle.std.specs.List.{list_any};
@@ -233,7 +233,7 @@ impl Access {
 
     /// Whether both have the same entries. Takes no memory.
     pub fn is_same(&self, other: &Access) -> bool
-        ensures { IsTrue result → self.now ≡ other.now }
+        ensures { IsTrue result ↔ self.now ≡ other.now }
     {
         if self.len() != other.len() {
             return false;

@@ -271,6 +271,14 @@ longest_stops g l tokens i chart added new token goes_on dropped lt at e typeabl
     rebased_before g l tokens new.tokens i lt (ap (λ x. x.tokens) (back ∙ e)) typeable
     (λ h. true_is_false (sym (begins.1 (subst (IsBeginning g l) (sym step) h)) ∙ is))
 
+-- or it can't be read, and is left out
+pub longest_unread : (g : GrammarParts) (l : Listed) (tokens : List (List ℕ)) (i : ℕ) (chart : Setting) (token : List ℕ) → i < length tokens
+    → token ≡ get_or tokens i token → chart ≡ setting_of g l (take i tokens) → IsTypeable g l (take i tokens)
+    → (IsBeginning g l (chart.tokens ++ token ∷ []) → ⊥) → IsRebased g l tokens chart.tokens
+longest_unread g l tokens i chart token lt at e typeable stops =
+    rebased_before g l tokens chart.tokens i lt (ap (λ x. x.tokens) e) typeable
+    (λ h. stops (subst (IsBeginning g l) (sym (step_is g l tokens i chart token lt at e)) h))
+
 -- What is known of an editor, as it is kept
 
 pub view_kept : (g : GrammarParts) (l : Listed) (inside s : Setting) → inside ≡ s → s ≡ setting_of g l s.tokens → inside ≡ setting_of g l inside.tokens

@@ -1,5 +1,5 @@
 -- Texts that are terminals or forms of live words.
-use Rattle.std.proofs.Common.{◌≡◌, ℕ, List, [], ◌∷◌, Bool, true, false, inl, inr, Option, Some, None, find, option_map, is_some, refl, sym, ap, subst, ◌∙◌, All, IsTrue, ◌↔◌}
+use Rattle.std.proofs.Common.{◌≡◌, ℕ, List, [], ◌∷◌, ◌++◌, Bool, true, false, inl, inr, Option, Some, None, find, option_map, is_some, refl, sym, ap, subst, ◌∙◌, All, IsTrue, ◌↔◌}
 use Rattle.std.specs.Prelude.{if◌then◌else◌}
 use Rattle.std.specs.Str.{IsUtf8, bytes_eq}
 use Rattle.std.proofs.lemmas.List.Elements.{All-contains}
@@ -22,6 +22,10 @@ use Rattle.derivations.proofs.Members.{Among, all_among}
 use Rattle.derivations.proofs.CutLemmas.{Passing, any_passes}
 use Rattle.derivations.proofs.EntryLemmas.{contains_among, among_contains}
 use Rattle.derivations.proofs.TokenLemmas.{terminal_token, text_token}
+use Rattle.derivation_trees.proofs.ReadingLemmas.{unread}
+use Rattle.derivation_trees.specs.Partial.{IsBeginning}
+use Rattle.lexicon.specs.Readings.{readings_of}
+use Rattle.editor.proofs.ReadLemmas.{IsReadable, beginning_readable}
 
 -- the text is a terminal or a form of a live word, of some group
 abbrev pub IsKnown : GrammarParts → Listed → List ℕ → Type 0
@@ -78,6 +82,23 @@ nothing_known g l text terminal none h = by h.0 h.1
     by Of k = no_form l text Of none k
     by Verb k = no_form l text Verb none k
     by Adjective k = no_form l text Adjective none k
+
+-- The last token of those that have a partial derivation
+
+last_among : (tokens : List (List ℕ)) (token : List ℕ) → Among (tokens ++ token ∷ []) token
+last_among [] token = inl refl
+last_among (t ∷ ts) token = inr (last_among ts token)
+
+readable_known : (g : GrammarParts) (l : Listed) (token : List ℕ) → IsReadable g l token → IsKnown g l token
+readable_known g l token (inl terminal) = terminal_known g l token terminal
+readable_known g l token (inr read) = by (owner l.live token) refl
+  where
+    by : (o : Option WordId) → owner l.live token ≡ o → IsKnown g l token
+    by (Some id) e = owner_known g l token id e
+    by None e = absurd (read (unread l.live token e))
+
+pub beginning_known : (g : GrammarParts) (l : Listed) (tokens : List (List ℕ)) (token : List ℕ) → IsBeginning g l (tokens ++ token ∷ []) → IsKnown g l token
+beginning_known g l tokens token h = readable_known g l token (beginning_readable g l (tokens ++ token ∷ []) h token (last_among tokens token))
 
 -- Tokens
 

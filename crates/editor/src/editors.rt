@@ -223,7 +223,13 @@ fn extended(
 {
     let mut chart = chart;
     for place in chart.tokens().len()..tokens.len() {
-        let goes_on = chart.advance(grammar, lexicon, &tokens[place])?;
+        // No table is made for a token that nothing can read.
+        let token = &tokens[place];
+        let known = is_known(grammar, lexicon, token.as_str());
+        if !known {
+            return Ok(chart);
+        }
+        let goes_on = chart.advance(grammar, lexicon, token)?;
         if !goes_on {
             chart.back();
             return Ok(chart);

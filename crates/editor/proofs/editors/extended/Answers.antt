@@ -1,8 +1,10 @@
 use Rattle.std.proofs.Common.{◌≡◌, ℕ, List, take, length, sym, ap, ◌∙◌, subst}
+use Rattle.derivation_trees.proofs.TruthLemmas.{true_is_false}
 use Rattle.derivation_trees.specs.Settings.{Setting}
 use Rattle.derivation_trees.specs.Partial.{IsTypeable}
 use Rattle.derivation_trees.specs.Sentences.{setting_of}
-use Rattle.editor.proofs.EditingLemmas.{longest_more, longest_stops, rebased_all, kept_on, undone}
+use Rattle.editor.proofs.EditingLemmas.{longest_more, longest_stops, longest_unread, rebased_all, kept_on, undone}
+use Rattle.editor.proofs.KnownLemmas.{IsKnown, beginning_known}
 use Rattle.editor.proofs.editors.extended.Goals as goal
 
 pub loop-place-init : goal.loop-place-init
@@ -12,6 +14,17 @@ loop-place-init c =
     let tokens = c.args.tokens.now in
     let count : c.len-place.result ≡ length c.args.chart.tokens = c.len-place.ensures ∙ ap (length {A = List ℕ}) c.tokens.ensures.tokens in
     (c.requires.front ∙ ap (λ n. setting_of g l (take n tokens)) (sym count), subst (λ n. IsTypeable g l (take n tokens)) (sym count) c.requires.typeable)
+
+pub returns-then-not-known-clause-kept : goal.returns-then-not-known-clause-kept
+returns-then-not-known-clause-kept c =
+    kept_on c.args.grammar.now c.args.lexicon.now c.loop-place.chart (take c.loop-place.place c.args.tokens.now) c.loop-place.invariant.0
+
+pub returns-then-not-known-clause-tokens : goal.returns-then-not-known-clause-tokens
+returns-then-not-known-clause-tokens c =
+    longest_unread c.args.grammar.now c.args.lexicon.now c.args.tokens.now c.loop-place.place c.loop-place.chart c.index-tokens-place.result
+    c.loop-place-test.true c.index-tokens-place.is c.loop-place.invariant.0 c.loop-place.invariant.1
+    (λ h. true_is_false (sym (c.is_known-known.ensures.known.1 (subst (IsKnown c.args.grammar.now c.args.lexicon.now) (sym c.as_str.ensures.value)
+    (beginning_known c.args.grammar.now c.args.lexicon.now c.loop-place.chart.tokens c.index-tokens-place.result h))) ∙ c.if-not-known.true))
 
 pub returns-then-not-goes_on-clause-kept : goal.returns-then-not-goes_on-clause-kept
 returns-then-not-goes_on-clause-kept c =

@@ -1,3 +1,4 @@
 pub mod Answered
 pub mod Asserted
+pub mod Fit
 pub mod Single

@@ -13,15 +13,17 @@ ghost use Rattle.absorb.specs.Mentioned.{names_in, is_among, are_over};
 ghost use Rattle.owl_eval.specs.Checked.{kept_interp, kept_claims};
 ghost use Rattle.consequences.specs.Known.{theory_in};
 ghost use Rattle.answers.specs.Answered.{IsInAll, IsOutsideSome, IsUnknown};
+ghost use Rattle.answers.specs.Fit.{IsFit};
 ghost use Rattle.answers.specs.Single.{Answered};
 
 use crate::asserting::asserting;
 use crate::denying::other_model;
+use crate::question::Question;
 use absorb::absorb;
 use consequences::Consequences;
 use logic_terms::{Axiom, Class, Names, negated};
 use owl_eval::{CheckedModel, axiom_true};
-use reasoner::{Decision, decide};
+use reasoner::{Verdict, decide};
 use std::alloc::Global;
 use wiki_base::{Memory, WordId};
 
@@ -83,67 +85,56 @@ pub fn ask_known(
     ensures apart { IfOk result (λ a. (n : WordId) → Contains a.yes n → ¬ Contains a.unknown n) }
 {
     let denial = negated(alloc, class)?;
-    all_decided(alloc, known, class, &denial, kept, names, budget)
+    let question = Question {
+        known,
+        class,
+        denial: &denial,
+        kept,
+        names,
+        budget,
+    };
+    all_decided(alloc, &question)
 }
 
-// The same with the complement of the class in negation normal form.
-fn all_decided(
-    alloc: Global,
-    known: &Consequences,
-    class: &Class,
-    denial: &Class,
-    kept: &CheckedModel,
-    names: &Names,
-    budget: u64,
-) -> Result<Answers, Memory>
-    requires denial { concept_of denial.now ≡ complement (concept_of class.now) }
-    requires absorbed { IsAbsorbed (kept_claims kept.now) names.now (theory_in known.now) }
-    requires over { IsTrue (are_over names.now (kept_claims kept.now) && list_all (is_among names.now) (names_in (concept_of class.now))) }
-    requires plain { IsTrue (are_plain (kept_claims kept.now) && is_plain (concept_of class.now)) }
-    ensures yes { IfOk result (λ a. All (IsInAll (kept_claims kept.now) (concept_of class.now)) a.yes) }
-    ensures unknown { IfOk result (λ a. All (IsUnknown (kept_claims kept.now) names.now budget (concept_of class.now)) a.unknown) }
-    ensures kept_has_unknown { IfOk result
-        (λ a. All (λ n. IsIn (kept_interp kept.now) (concept_of class.now) (element_of (kept_interp kept.now) n)) a.unknown) }
-    ensures others { IfOk result (λ a. (n : WordId) → Contains names.now n → ¬ Contains a.yes n → ¬ Contains a.unknown n
-        → IsOutsideSome (kept_claims kept.now) (concept_of class.now) n) }
-    ensures given { IfOk result (λ a. All (Contains names.now) a.yes × All (Contains names.now) a.unknown) }
+// The answers to a question.
+fn all_decided(alloc: Global, question: &Question<'_>) -> Result<Answers, Memory>
+    requires { IsFit question.now }
+    ensures yes { IfOk result (λ a. All (IsInAll (kept_claims question.now.kept.now) (concept_of question.now.class.now)) a.yes) }
+    ensures unknown { IfOk result (λ a.
+        All (IsUnknown (kept_claims question.now.kept.now) question.now.names.now question.now.budget (concept_of question.now.class.now)) a.unknown) }
+    ensures kept_has_unknown { IfOk result (λ a. All (λ n.
+        IsIn (kept_interp question.now.kept.now) (concept_of question.now.class.now) (element_of (kept_interp question.now.kept.now) n)) a.unknown) }
+    ensures others { IfOk result (λ a. (n : WordId) → Contains question.now.names.now n → ¬ Contains a.yes n → ¬ Contains a.unknown n
+        → IsOutsideSome (kept_claims question.now.kept.now) (concept_of question.now.class.now) n) }
+    ensures given { IfOk result (λ a. All (Contains question.now.names.now) a.yes × All (Contains question.now.names.now) a.unknown) }
     ensures apart { IfOk result (λ a. (n : WordId) → Contains a.yes n → ¬ Contains a.unknown n) }
 {
-    let other = other_model(alloc, known, class, denial, kept, names, budget)?;
-    each_decided(alloc, known, class, denial, kept, &other, names, budget)
+    let other = other_model(alloc, question)?;
+    each_decided(alloc, question, &other)
 }
 
 // The same where another model of the axioms was looked for.
 fn each_decided(
     alloc: Global,
-    known: &Consequences,
-    class: &Class,
-    denial: &Class,
-    kept: &CheckedModel,
+    question: &Question<'_>,
     other: &Option<CheckedModel>,
-    names: &Names,
-    budget: u64,
 ) -> Result<Answers, Memory>
-    requires denial { concept_of denial.now ≡ complement (concept_of class.now) }
-    requires other { IfSome other.now (λ m. kept_claims m ≡ kept_claims kept.now) }
-    requires absorbed { IsAbsorbed (kept_claims kept.now) names.now (theory_in known.now) }
-    requires over { IsTrue (are_over names.now (kept_claims kept.now) && list_all (is_among names.now) (names_in (concept_of class.now))) }
-    requires plain { IsTrue (are_plain (kept_claims kept.now) && is_plain (concept_of class.now)) }
-    ensures yes { IfOk result (λ a. All (IsInAll (kept_claims kept.now) (concept_of class.now)) a.yes) }
-    ensures unknown { IfOk result (λ a. All (IsUnknown (kept_claims kept.now) names.now budget (concept_of class.now)) a.unknown) }
-    ensures kept_has_unknown { IfOk result
-        (λ a. All (λ n. IsIn (kept_interp kept.now) (concept_of class.now) (element_of (kept_interp kept.now) n)) a.unknown) }
-    ensures others { IfOk result (λ a. (n : WordId) → Contains names.now n → ¬ Contains a.yes n → ¬ Contains a.unknown n
-        → IsOutsideSome (kept_claims kept.now) (concept_of class.now) n) }
-    ensures given { IfOk result (λ a. All (Contains names.now) a.yes × All (Contains names.now) a.unknown) }
+    requires fit { IsFit question.now }
+    requires other { IfSome other.now (λ m. kept_claims m ≡ kept_claims question.now.kept.now) }
+    ensures yes { IfOk result (λ a. All (IsInAll (kept_claims question.now.kept.now) (concept_of question.now.class.now)) a.yes) }
+    ensures unknown { IfOk result (λ a.
+        All (IsUnknown (kept_claims question.now.kept.now) question.now.names.now question.now.budget (concept_of question.now.class.now)) a.unknown) }
+    ensures kept_has_unknown { IfOk result (λ a. All (λ n.
+        IsIn (kept_interp question.now.kept.now) (concept_of question.now.class.now) (element_of (kept_interp question.now.kept.now) n)) a.unknown) }
+    ensures others { IfOk result (λ a. (n : WordId) → Contains question.now.names.now n → ¬ Contains a.yes n → ¬ Contains a.unknown n
+        → IsOutsideSome (kept_claims question.now.kept.now) (concept_of question.now.class.now) n) }
+    ensures given { IfOk result (λ a. All (Contains question.now.names.now) a.yes × All (Contains question.now.names.now) a.unknown) }
     ensures apart { IfOk result (λ a. (n : WordId) → Contains a.yes n → ¬ Contains a.unknown n) }
 {
     let mut yes = Names::new(alloc);
     let mut unknown = Names::new(alloc);
-    for name in names.as_slice() {
-        match decided(
-            alloc, known, class, denial, kept, other, names, *name, budget,
-        )? {
+    for name in question.names.as_slice() {
+        match decided(alloc, question, other, *name)? {
             Asked::Yes => yes.push(*name)?,
             Asked::Unknown => unknown.push(*name)?,
             Asked::No => {}
@@ -160,28 +151,24 @@ pub(crate) enum Asked {
     No,
 }
 
-// Whether one name is in the class. The denial is the complement of the class in negation normal form.
+// Whether one name is in the class.
 fn decided(
     alloc: Global,
-    known: &Consequences,
-    class: &Class,
-    denial: &Class,
-    kept: &CheckedModel,
+    question: &Question<'_>,
     other: &Option<CheckedModel>,
-    names: &Names,
     name: WordId,
-    budget: u64,
 ) -> Result<Asked, Memory>
-    requires other { IfSome other.now (λ m. kept_claims m ≡ kept_claims kept.now) }
-    requires absorbed { IsAbsorbed (kept_claims kept.now) names.now (theory_in known.now) }
-    requires denial { concept_of denial.now ≡ complement (concept_of class.now) }
-    requires over { IsTrue (are_over names.now (kept_claims kept.now) && list_all (is_among names.now) (names_in (concept_of class.now))) }
-    requires plain { IsTrue (are_plain (kept_claims kept.now) && is_plain (concept_of class.now)) }
-    requires rising { names_rise names.now ≡ true }
-    requires given { IsTrue (is_among names.now name) }
-    ensures { IfOk result (λ a. Answered (kept_interp kept.now) (kept_claims kept.now) names.now budget (concept_of class.now) name a) }
+    requires fit { IsFit question.now }
+    requires other { IfSome other.now (λ m. kept_claims m ≡ kept_claims question.now.kept.now) }
+    requires rising { names_rise question.now.names.now ≡ true }
+    requires given { IsTrue (is_among question.now.names.now name) }
+    ensures { IfOk result (λ a. Answered (kept_interp question.now.kept.now) (kept_claims question.now.kept.now) question.now.names.now
+        question.now.budget (concept_of question.now.class.now) name a) }
 {
-    let is_out = is_outside(alloc, kept, class, denial, name)?;
+    let class = question.class;
+    let denial = question.denial;
+    let known = question.known;
+    let is_out = is_outside(alloc, question.kept, class, denial, name)?;
     if is_out {
         return Ok(Asked::No);
     }
@@ -193,10 +180,10 @@ fn decided(
         return Ok(Asked::No);
     }
     let with_denial = asserting(alloc, known.knowledge(), name, denial)?;
-    match decide(alloc, &with_denial, budget)? {
-        Decision::Model(_) => Ok(Asked::No),
-        Decision::Tree(_) => Ok(Asked::Yes),
-        Decision::Undecided(_) => Ok(Asked::Unknown),
+    match decide(alloc, &with_denial, question.budget)? {
+        Verdict::Consistent(_) => Ok(Asked::No),
+        Verdict::Inconsistent(_) => Ok(Asked::Yes),
+        Verdict::Spent(_) => Ok(Asked::Unknown),
     }
 }
 

@@ -1,15 +1,14 @@
 // A model that has many names outside a class at once.
-ghost use Rattle.std.specs.Prelude.{◌≡◌, ◌≤◌, ◌&&◌, IfOk, IfSome, IsTrue, length, take};
-ghost use Rattle.std.specs.List.{list_all};
-ghost use Rattle.logic_terms.specs.Complement.{complement};
-ghost use Rattle.logic_terms.specs.Plain.{is_plain, are_plain};
-ghost use Rattle.logic_terms.specs.Shown.{concept_of, claims_of};
-ghost use Rattle.absorb.specs.Mentioned.{names_in, is_among, are_over};
+ghost use Rattle.std.specs.Prelude.{◌≡◌, ◌≤◌, IfOk, IfSome, IsTrue, length, take};
+ghost use Rattle.logic_terms.specs.Plain.{are_plain};
+ghost use Rattle.logic_terms.specs.Shown.{claims_of};
+ghost use Rattle.absorb.specs.Mentioned.{are_over};
 ghost use Rattle.owl_eval.specs.Checked.{kept_claims};
+ghost use Rattle.answers.specs.Fit.{IsFit};
 
 use crate::asking::is_outside;
-use consequences::Consequences;
-use logic_terms::{Axiom, Axioms, Class, Names};
+use crate::question::Question;
+use logic_terms::{Axiom, Axioms};
 use owl_eval::CheckedModel;
 use reasoner::{Verdict, searched_verdict};
 use std::alloc::Global;
@@ -22,27 +21,20 @@ const DENYING_BUDGET: u64 = 100_000;
 // where there are two or more: for one name its own verdict is the same search.
 pub(crate) fn other_model(
     alloc: Global,
-    known: &Consequences,
-    class: &Class,
-    denial: &Class,
-    kept: &CheckedModel,
-    names: &Names,
-    budget: u64,
+    question: &Question<'_>,
 ) -> Result<Option<CheckedModel>, Memory>
-    requires denial { concept_of denial.now ≡ complement (concept_of class.now) }
-    requires over { IsTrue (are_over names.now (kept_claims kept.now) && list_all (is_among names.now) (names_in (concept_of class.now))) }
-    requires plain { IsTrue (are_plain (kept_claims kept.now) && is_plain (concept_of class.now)) }
-    ensures { IfOk result (λ other. IfSome other (λ m. kept_claims m ≡ kept_claims kept.now)) }
+    requires { IsFit question.now }
+    ensures { IfOk result (λ other. IfSome other (λ m. kept_claims m ≡ kept_claims question.now.kept.now)) }
 {
-    if budget < DENYING_BUDGET {
+    if question.budget < DENYING_BUDGET {
         return Ok(None);
     }
-    let count = kept.axioms().len();
-    let axioms = all_denied(alloc, known, class, denial, kept, names)?;
+    let count = question.kept.axioms().len();
+    let axioms = all_denied(alloc, question)?;
     if axioms.len() - count < 2 {
         return Ok(None);
     }
-    match searched_verdict(alloc, axioms, names, DENYING_BUDGET)? {
+    match searched_verdict(alloc, axioms, question.names, DENYING_BUDGET)? {
         Verdict::Consistent(model) => Ok(Some(without_denials(model, count))),
         _ => Ok(None),
     }
@@ -60,26 +52,17 @@ fn without_denials(model: CheckedModel, count: usize) -> CheckedModel
 }
 
 // The kept axioms, and behind them that each name that may be an answer is in the complement of the class.
-fn all_denied(
-    alloc: Global,
-    known: &Consequences,
-    class: &Class,
-    denial: &Class,
-    kept: &CheckedModel,
-    names: &Names,
-) -> Result<Axioms, Memory>
-    requires denial { concept_of denial.now ≡ complement (concept_of class.now) }
-    requires over { IsTrue (are_over names.now (kept_claims kept.now) && list_all (is_among names.now) (names_in (concept_of class.now))) }
-    requires plain { IsTrue (are_plain (kept_claims kept.now) && is_plain (concept_of class.now)) }
-    ensures over { IfOk result (λ made. IsTrue (are_over names.now (claims_of made))) }
+fn all_denied(alloc: Global, question: &Question<'_>) -> Result<Axioms, Memory>
+    requires { IsFit question.now }
+    ensures over { IfOk result (λ made. IsTrue (are_over question.now.names.now (claims_of made))) }
     ensures plain { IfOk result (λ made. IsTrue (are_plain (claims_of made))) }
-    ensures longer { IfOk result (λ made. length (kept_claims kept.now) ≤ length (claims_of made)) }
-    ensures first { IfOk result (λ made. take (length (kept_claims kept.now)) (claims_of made) ≡ kept_claims kept.now) }
+    ensures longer { IfOk result (λ made. length (kept_claims question.now.kept.now) ≤ length (claims_of made)) }
+    ensures first { IfOk result (λ made. take (length (kept_claims question.now.kept.now)) (claims_of made) ≡ kept_claims question.now.kept.now) }
 {
-    let mut axioms = kept.axioms().copy()?;
-    for name in names.as_slice() {
-        if may_be_answer(alloc, known, class, denial, kept, *name)? {
-            let copied = denial.copy(alloc)?;
+    let mut axioms = question.kept.axioms().copy()?;
+    for name in question.names.as_slice() {
+        if may_be_answer(alloc, question, *name)? {
+            let copied = question.denial.copy(alloc)?;
             axioms.push(Axiom::Member(copied, *name))?;
         }
     }
@@ -87,15 +70,10 @@ fn all_denied(
 }
 
 // Whether neither the kept interpretation nor a branch of single choices tells of the name.
-fn may_be_answer(
-    alloc: Global,
-    known: &Consequences,
-    class: &Class,
-    denial: &Class,
-    kept: &CheckedModel,
-    name: WordId,
-) -> Result<bool, Memory>
-    requires { concept_of denial.now ≡ complement (concept_of class.now) }
+fn may_be_answer(alloc: Global, question: &Question<'_>, name: WordId) -> Result<bool, Memory>
+    requires { IsFit question.now }
 {
-    Ok(!is_outside(alloc, kept, class, denial, name)? && !known.include(class, name))
+    let class = question.class;
+    let is_out = is_outside(alloc, question.kept, class, question.denial, name)?;
+    Ok(!is_out && !question.known.include(class, name))
 }

@@ -4,5 +4,6 @@
 mod asking;
 mod asserting;
 mod denying;
+mod question;
 
 pub use asking::{Answers, ask, ask_known};

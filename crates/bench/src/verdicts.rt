@@ -13,7 +13,7 @@ use reasoner::{Verdict, verdict};
 use reasoner_examples::are_fit;
 use std::alloc::Global;
 use std::time::CpuClock;
-use tableau::{Outcome, systematic};
+use tableau::systematic;
 use wiki_base::WordId;
 
 const WORDS: Words = Words {
@@ -79,7 +79,7 @@ fn judged<R: CpuClock>(
     base: Base,
     kept: &CheckedModel,
     budget: u64,
-) -> Result<(Verdict, u128), Fault> {
+) -> Result<(Verdict<CheckedModel>, u128), Fault> {
     let Base { axioms, names } = base;
     if are_fit(&names, &axioms) {
         let start = rt.thread_cpu_time()?;
@@ -92,7 +92,7 @@ fn judged<R: CpuClock>(
 }
 
 // The model of a consistent verdict.
-fn model_of(verdict: Verdict) -> Result<CheckedModel, Fault> {
+fn model_of(verdict: Verdict<CheckedModel>) -> Result<CheckedModel, Fault> {
     match verdict {
         Verdict::Consistent(model) => Ok(model),
         Verdict::Inconsistent(_) => Err(Fault::Axioms),
@@ -100,15 +100,15 @@ fn model_of(verdict: Verdict) -> Result<CheckedModel, Fault> {
     }
 }
 
-fn is_spent(verdict: &Verdict) -> bool {
+fn is_spent(verdict: &Verdict<CheckedModel>) -> bool {
     match verdict {
         Verdict::Spent(_) => true,
         _ => false,
     }
 }
 
-// What the verdict on a base is.
-fn said(verdict: &Verdict) -> &'static str {
+// What a verdict on a base is, or the end of a search.
+fn said<T>(verdict: &Verdict<T>) -> &'static str {
     match verdict {
         Verdict::Consistent(_) => "a model",
         Verdict::Inconsistent(_) => "no model",
@@ -136,15 +136,6 @@ fn tell<R: Print + CpuClock>(
     Ok(())
 }
 
-// How a search ended.
-fn ended(outcome: &Outcome) -> &'static str {
-    match outcome {
-        Outcome::Finished(_) => "a model",
-        Outcome::Closed(_) => "no model",
-        Outcome::Spent(_) => "spent",
-    }
-}
-
 // Tells how the systematic search alone ends on a base, and how much processor time it took where that is asked.
 fn tell_systematic<R: Print + CpuClock>(
     rt: &R,
@@ -159,9 +150,9 @@ fn tell_systematic<R: Print + CpuClock>(
     }
     let knowledge = absorb(alloc, &axioms, &names)?;
     let start = rt.thread_cpu_time()?;
-    let outcome = systematic(alloc, &knowledge, DEFAULT_BUDGET)?;
+    let end = systematic(alloc, &knowledge, DEFAULT_BUDGET)?;
     let taken = rt.thread_cpu_time()?.saturating_sub(start).as_micros();
-    let kind = ended(&outcome);
+    let kind = said(&end);
     if timed {
         println!(rt; "{text}, the systematic search alone: {kind}, {taken} microseconds")?;
     } else {

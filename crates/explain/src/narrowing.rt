@@ -14,6 +14,7 @@ use crate::uses::Uses;
 use absorb::absorb;
 use lists::List;
 use logic_terms::Knowledge;
+use owl_eval::CheckedModel;
 use reasoner::{Verdict, searched_verdict};
 use std::alloc::Global;
 use tableau_rules::Closed;
@@ -32,7 +33,7 @@ pub(crate) fn judged(
     inquiry: &Inquiry<'_>,
     kept: &[usize],
     rest: &[usize],
-) -> Result<Verdict, Memory>
+) -> Result<Verdict<CheckedModel>, Memory>
     requires { AreFit (claims_in inquiry.now.parts.now) inquiry.now.names.now }
     ensures axioms { IfOk result (λ v. IfConsistent v (λ m. kept_claims m ≡ stated_at (claims_in inquiry.now.parts.now) (kept.now ++ rest.now))) }
     ensures model { IfOk result (λ v. IfConsistent v

@@ -6,32 +6,14 @@ use Rattle.logic_terms.specs.Interpretation.{Interpretation, is_interpretation}
 use Rattle.logic_terms.specs.Reading.{IsModel}
 use Rattle.logic_terms.specs.Theory.{Theory}
 use Rattle.absorb.specs.Absorbed.{IsAbsorbed}
-use Rattle.owl_eval.specs.declared.checked.CheckedModel.{CheckedModel}
-use Rattle.tableau_rules.specs.declared.branch.Branch.{Branch}
-use Rattle.tableau_rules.specs.declared.step.Closed.{Closed}
 use Rattle.tableau_rules.specs.Graph.{Graph}
 use Rattle.tableau_rules.specs.Trees.{Tree, is_closed}
 use Rattle.tableau_bounds.specs.Enough.{enough, enough_without_choices, enough_without_new_nodes}
 use Rattle.tableau_bounds.specs.Fragments.{is_without_unions, is_without_existentials}
 use Rattle.tableau.specs.Ends.{IsCutAt}
-use Rattle.reasoner.specs.declared.answer.Verdict.{Verdict}
-use Rattle.reasoner.specs.declared.answer.Verdict.TheVariants.{Consistent, Inconsistent, Spent}
-
--- facts of what one kind of verdict carries
-abbrev pub IfConsistent : Verdict → (CheckedModel → Type 0) → Type 0
-IfConsistent (Consistent checked) P = P checked
-IfConsistent (Inconsistent tree) P = Unit {0}
-IfConsistent (Spent b) P = Unit {0}
-
-abbrev pub IfInconsistent : Verdict → (Closed → Type 0) → Type 0
-IfInconsistent (Consistent checked) P = Unit {0}
-IfInconsistent (Inconsistent tree) P = P tree
-IfInconsistent (Spent b) P = Unit {0}
-
-abbrev pub IfSpent : Verdict → (Branch → Type 0) → Type 0
-IfSpent (Consistent checked) P = Unit {0}
-IfSpent (Inconsistent tree) P = Unit {0}
-IfSpent (Spent b) P = P b
+pub use Rattle.tableau.specs.declared.verdict.Verdict.{Verdict}
+pub use Rattle.tableau.specs.declared.verdict.Verdict.TheVariants.{Consistent, Inconsistent, Spent}
+pub use Rattle.tableau.specs.Ends.{IfConsistent, IfInconsistent, IfSpent}
 
 -- a finite interpretation is a model of these axioms, and no finite interpretation is
 abbrev pub IsFiniteModel : Interpretation → List Claim → Type 0

@@ -10,7 +10,6 @@ ghost use Rattle.tableau_rules.specs.Shown.{graph_of};
 ghost use Rattle.tableau_rules.specs.Trees.{tree_of};
 ghost use Rattle.reasoner.specs.Verdicts.{IfConsistent, IfInconsistent, IfSpent, IsFiniteModel, HaveNoModel, ClosesAll, SpendsAll, IsBelowEnough, IsBelowWithoutChoices, IsBelowWithoutNewNodes};
 
-use crate::answer::{Decision, Verdict};
 use crate::deciding::decide;
 use absorb::absorb;
 use logic_terms::{Axioms, Names};
@@ -18,6 +17,7 @@ use model_growth::grow;
 use owl_eval::{CheckedModel, Interp};
 use shared_search::propose;
 use std::alloc::Global;
+use tableau::Verdict;
 use wiki_base::Memory;
 
 // Below this budget whether axioms have a model depends on the kept interpretation and the search alone.
@@ -36,7 +36,7 @@ pub fn verdict(
     names: &Names,
     kept: &CheckedModel,
     budget: u64,
-) -> Result<Verdict, Memory>
+) -> Result<Verdict<CheckedModel>, Memory>
     requires over { IsTrue (are_over names.now (claims_of axioms)) }
     requires plain { IsTrue (are_plain (claims_of axioms)) }
     ensures consistent { IfOk result (λ v. IfConsistent v (λ m. kept_claims m ≡ claims_of axioms)) }
@@ -72,7 +72,7 @@ fn grown_verdict(
     names: &Names,
     kept: &CheckedModel,
     budget: u64,
-) -> Result<Verdict, Memory>
+) -> Result<Verdict<CheckedModel>, Memory>
     requires over { IsTrue (are_over names.now (claims_of axioms)) }
     requires plain { IsTrue (are_plain (claims_of axioms)) }
     ensures consistent { IfOk result (λ v. IfConsistent v (λ m. kept_claims m ≡ claims_of axioms)) }
@@ -101,7 +101,7 @@ fn tried_verdict(
     names: &Names,
     kept: &CheckedModel,
     budget: u64,
-) -> Result<Verdict, Memory>
+) -> Result<Verdict<CheckedModel>, Memory>
     requires over { IsTrue (are_over names.now (claims_of axioms)) }
     requires plain { IsTrue (are_plain (claims_of axioms)) }
     ensures consistent { IfOk result (λ v. IfConsistent v (λ m. kept_claims m ≡ claims_of axioms)) }
@@ -132,7 +132,7 @@ pub fn searched_verdict(
     axioms: Axioms,
     names: &Names,
     budget: u64,
-) -> Result<Verdict, Memory>
+) -> Result<Verdict<CheckedModel>, Memory>
     requires over { IsTrue (are_over names.now (claims_of axioms)) }
     requires plain { IsTrue (are_plain (claims_of axioms)) }
     ensures consistent { IfOk result (λ v. IfConsistent v (λ m. kept_claims m ≡ claims_of axioms)) }
@@ -168,7 +168,7 @@ fn shared_verdict(
     axioms: Axioms,
     names: &Names,
     budget: u64,
-) -> Result<Verdict, Memory>
+) -> Result<Verdict<CheckedModel>, Memory>
     requires over { IsTrue (are_over names.now (claims_of axioms)) }
     requires plain { IsTrue (are_plain (claims_of axioms)) }
     ensures consistent { IfOk result (λ v. IfConsistent v (λ m. kept_claims m ≡ claims_of axioms)) }
@@ -198,7 +198,7 @@ fn decided_verdict(
     axioms: Axioms,
     names: &Names,
     budget: u64,
-) -> Result<Verdict, Memory>
+) -> Result<Verdict<CheckedModel>, Memory>
     requires over { IsTrue (are_over names.now (claims_of axioms)) }
     requires plain { IsTrue (are_plain (claims_of axioms)) }
     ensures consistent { IfOk result (λ v. IfConsistent v (λ m. kept_claims m ≡ claims_of axioms)) }
@@ -212,9 +212,9 @@ fn decided_verdict(
 {
     let k = absorb(alloc, &axioms, names)?;
     match decide(alloc, &k, budget)? {
-        Decision::Model(interp) => Ok(Verdict::Consistent(checked(interp, axioms))),
-        Decision::Tree(tree) => Ok(Verdict::Inconsistent(tree)),
-        Decision::Undecided(b) => Ok(Verdict::Spent(b)),
+        Verdict::Consistent(interp) => Ok(Verdict::Consistent(checked(interp, axioms))),
+        Verdict::Inconsistent(tree) => Ok(Verdict::Inconsistent(tree)),
+        Verdict::Spent(b) => Ok(Verdict::Spent(b)),
     }
 }
 

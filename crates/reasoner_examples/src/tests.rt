@@ -12,8 +12,8 @@ use quick_search::{Proposal, hunt};
 use reasoner::{Verdict, verdict};
 use std::alloc::Global;
 use std::test::Fail;
-use tableau::{Outcome, search, systematic};
-use tableau_rules::start;
+use tableau::{search, systematic};
+use tableau_rules::{Branch, start};
 use wiki_base::WordId;
 
 // How a search ended.
@@ -24,11 +24,11 @@ enum End {
     Cut,
 }
 
-fn end_of(outcome: &Outcome) -> End {
-    match outcome {
-        Outcome::Finished(_) => End::Open,
-        Outcome::Closed(_) => End::Shut,
-        Outcome::Spent(_) => End::Cut,
+fn end_of(verdict: &Verdict<Branch>) -> End {
+    match verdict {
+        Verdict::Consistent(_) => End::Open,
+        Verdict::Inconsistent(_) => End::Shut,
+        Verdict::Spent(_) => End::Cut,
     }
 }
 
@@ -50,7 +50,7 @@ fn judged(
     text: &str,
     kept: &CheckedModel,
     budget: u64,
-) -> Result<Verdict, Fail> {
+) -> Result<Verdict<CheckedModel>, Fail> {
     let names = names_of(alloc, names)?;
     let axioms = read(alloc, text)?;
     if are_fit(&names, &axioms) {
@@ -111,7 +111,7 @@ fn closed_trees_of_searches_are_accepted(rt: HostRuntime) -> Result<(), Fail> {
     let alloc = rt.alloc();
     for (names, axioms, steps, _) in BASES.iter() {
         let k = knowledge(alloc, *names, axioms)?;
-        if let Outcome::Closed(tree) = search(alloc, &k, *steps)? {
+        if let Verdict::Inconsistent(tree) = search(alloc, &k, *steps)? {
             assert!(rt; accepts(alloc, &k, &tree)?, "{axioms}");
         }
     }

@@ -4,9 +4,9 @@ ghost use Rattle.logic_terms.specs.Known.{theory_of};
 ghost use Rattle.tableau_rules.specs.Branches.{IsBranch, is_finished};
 ghost use Rattle.tableau_rules.specs.Shown.{graph_of};
 ghost use Rattle.tableau_rules.specs.Trees.{tree_of, is_closed};
-ghost use Rattle.tableau.specs.Ends.{IfFinished, IfClosed, IfSpent, IsEnd};
+ghost use Rattle.tableau.specs.Ends.{IfConsistent, IfInconsistent, IfSpent, IsEnd};
 
-use crate::outcome::Outcome;
+use crate::verdict::Verdict;
 use closure_check::accepts;
 use lists::List;
 use logic_terms::Knowledge;
@@ -19,10 +19,14 @@ use wiki_base::Memory;
 const LEAST_LEAPING_BUDGET: u64 = 100_000;
 
 // An end of a search that the quick search finds within the budget, if it finds one: never a spent budget.
-pub(crate) fn quickly(alloc: Global, k: &Knowledge, budget: u64) -> Result<Option<Outcome>, Memory>
-    ensures finished { IfOk result (λ o. IfSome o (λ e. IfFinished e (λ b. IsEnd (theory_of k.now) (graph_of b)))) }
-    ensures closed { IfOk result (λ o. IfSome o (λ e. IfClosed e (λ tree. IsTrue (is_closed (theory_of k.now) (tree_of tree))))) }
-    ensures not_spent { IfOk result (λ o. IfSome o (λ e. IfSpent e (λ _. ⊥))) }
+pub(crate) fn quickly(
+    alloc: Global,
+    k: &Knowledge,
+    budget: u64,
+) -> Result<Option<Verdict<Branch>>, Memory>
+    ensures finished { IfOk result (λ o. IfSome o (λ v. IfConsistent v (λ b. IsEnd (theory_of k.now) (graph_of b)))) }
+    ensures closed { IfOk result (λ o. IfSome o (λ v. IfInconsistent v (λ tree. IsTrue (is_closed (theory_of k.now) (tree_of tree))))) }
+    ensures not_spent { IfOk result (λ o. IfSome o (λ v. IfSpent v (λ _. ⊥))) }
 {
     let first = start(alloc, k)?;
     match hunt(alloc, k, &first, budget, budget >= LEAST_LEAPING_BUDGET)? {
@@ -37,17 +41,17 @@ fn finished(
     k: &Knowledge,
     first: Branch,
     steps: List<(Step, u64)>,
-) -> Result<Option<Outcome>, Memory>
+) -> Result<Option<Verdict<Branch>>, Memory>
     requires { IsBranch (theory_of k.now) (graph_of first) }
-    ensures finished { IfOk result (λ o. IfSome o (λ e. IfFinished e (λ b. IsEnd (theory_of k.now) (graph_of b)))) }
-    ensures closed { IfOk result (λ o. IfSome o (λ e. IfClosed e (λ tree. IsTrue (is_closed (theory_of k.now) (tree_of tree))))) }
-    ensures not_spent { IfOk result (λ o. IfSome o (λ e. IfSpent e (λ _. ⊥))) }
+    ensures finished { IfOk result (λ o. IfSome o (λ v. IfConsistent v (λ b. IsEnd (theory_of k.now) (graph_of b)))) }
+    ensures closed { IfOk result (λ o. IfSome o (λ v. IfInconsistent v (λ tree. IsTrue (is_closed (theory_of k.now) (tree_of tree))))) }
+    ensures not_spent { IfOk result (λ o. IfSome o (λ v. IfSpent v (λ _. ⊥))) }
 {
     let Some(b) = replayed(k, first, steps.as_slice())? else {
         return Ok(None);
     };
     if is_finished(k, &b) {
-        Ok(Some(Outcome::Finished(b)))
+        Ok(Some(Verdict::Consistent(b)))
     } else {
         Ok(None)
     }
@@ -77,13 +81,13 @@ fn replayed(k: &Knowledge, first: Branch, steps: &[(Step, u64)]) -> Result<Optio
 }
 
 // The end by a closed tree, if this is one.
-fn closed(alloc: Global, k: &Knowledge, tree: Closed) -> Result<Option<Outcome>, Memory>
-    ensures finished { IfOk result (λ o. IfSome o (λ e. IfFinished e (λ b. IsEnd (theory_of k.now) (graph_of b)))) }
-    ensures closed { IfOk result (λ o. IfSome o (λ e. IfClosed e (λ tree. IsTrue (is_closed (theory_of k.now) (tree_of tree))))) }
-    ensures not_spent { IfOk result (λ o. IfSome o (λ e. IfSpent e (λ _. ⊥))) }
+fn closed(alloc: Global, k: &Knowledge, tree: Closed) -> Result<Option<Verdict<Branch>>, Memory>
+    ensures finished { IfOk result (λ o. IfSome o (λ v. IfConsistent v (λ b. IsEnd (theory_of k.now) (graph_of b)))) }
+    ensures closed { IfOk result (λ o. IfSome o (λ v. IfInconsistent v (λ tree. IsTrue (is_closed (theory_of k.now) (tree_of tree))))) }
+    ensures not_spent { IfOk result (λ o. IfSome o (λ v. IfSpent v (λ _. ⊥))) }
 {
     if accepts(alloc, k, &tree)? {
-        Ok(Some(Outcome::Closed(tree)))
+        Ok(Some(Verdict::Inconsistent(tree)))
     } else {
         Ok(None)
     }

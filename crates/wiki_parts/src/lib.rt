@@ -19,7 +19,7 @@ mod words;
 pub use answering::{answers_of, spelled};
 pub use faults::Fault;
 pub use grammars::{grammar_read, reground};
-pub use judging::{Judgement, judged};
+pub use judging::judged;
 pub use keeping::first_model;
 pub use knowing::{Senses, is_asserted, known_around, push_all, push_articles, push_sentences};
 pub use meanings::{Sense, is_faithful, sense_of};

@@ -13,9 +13,10 @@ use crate::keeping::Keeping;
 use articles::{Article, Shared};
 use lexicon::Lexicon;
 use owl_eval::CheckedModel;
+use reasoner::Verdict;
 use std::alloc::Global;
 use wiki_base::Memory;
-use wiki_parts::{Judgement, Sense, Senses, judged, known_around, live_names};
+use wiki_parts::{Sense, Senses, judged, known_around, live_names};
 use wiki_talk::Status;
 
 // The status of a sentence of this meaning in place of those of an article from a place to before another, and the model of
@@ -59,15 +60,15 @@ pub(crate) fn standing(
     }
 }
 
-// The status that a judgement gives, and its model.
-fn standing_by(judgement: Judgement) -> (Status, Option<CheckedModel>)
-    ensures status { result.0 ≡ status_in judgement }
-    ensures model { result.1 ≡ model_in judgement }
+// The status that a verdict gives, and its model.
+fn standing_by(verdict: Verdict<CheckedModel>) -> (Status, Option<CheckedModel>)
+    ensures status { result.0 ≡ status_in verdict }
+    ensures model { result.1 ≡ model_in verdict }
 {
-    match judgement {
-        Judgement::Taken(model) => (Status::Asserted, Some(model)),
-        Judgement::Contradiction => (Status::RedContradiction, None),
-        Judgement::Spent => (Status::RedBudget, None),
+    match verdict {
+        Verdict::Consistent(model) => (Status::Asserted, Some(model)),
+        Verdict::Inconsistent(_) => (Status::RedContradiction, None),
+        Verdict::Spent(_) => (Status::RedBudget, None),
     }
 }
 

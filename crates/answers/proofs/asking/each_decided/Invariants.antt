@@ -5,5 +5,5 @@ use Rattle.answers.proofs.AskedLemmas.{AskedSoFar}
 use Rattle.answers.proofs.asking.each_decided.Given as goal
 
 abbrev pub invariant-loop-name : goal.invariant-loop-name
-invariant-loop-name l = AskedSoFar (kept_interp l.kept) (kept_claims l.kept) l.names l.budget (concept_of l.class) (take l.name-index l.name-items) l.yes
-    l.unknown
+invariant-loop-name l = AskedSoFar (kept_interp l.question.kept.now) (kept_claims l.question.kept.now) l.question.names.now l.question.budget
+    (concept_of l.question.class.now) (take l.name-index l.name-items) l.yes l.unknown

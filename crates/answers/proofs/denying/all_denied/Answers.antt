@@ -12,10 +12,11 @@ use Rattle.answers.proofs.denying.all_denied.Goals.{then-branch+in_ok-copied+in_
 
 pub loop-name-preserved : goal.loop-name-preserved
 loop-name-preserved c =
+    let q = c.args.question.now in
     let ns = c.as_slice-name-items.result.now in
-    let names = c.args.names.now in
-    let claims = kept_claims c.args.kept.now in
-    let class = concept_of c.args.class.now in
+    let names = q.names.now in
+    let claims = kept_claims q.kept.now in
+    let class = concept_of q.class.now in
     let name = get_or ns c.loop-name.name-index (record { 0 = 0 }) in
     let among : is_among names name ≡ true =
     ap (λ all. is_among all name) (sym c.as_slice-name-items.ensures.names) ∙ among_at ns c.loop-name.name-index (record { 0 = 0 }) c.loop-name-test.true in

@@ -4,4 +4,4 @@ use Rattle.answers.proofs.DenyingLemmas.{AreDenied}
 use Rattle.answers.proofs.denying.all_denied.Given as goal
 
 abbrev pub invariant-loop-name : goal.invariant-loop-name
-invariant-loop-name l = AreDenied l.names (kept_claims l.kept) (claims_of l.axioms)
+invariant-loop-name l = AreDenied l.question.names.now (kept_claims l.question.kept.now) (claims_of l.axioms)

@@ -5,14 +5,12 @@ use Rattle.logic_terms.specs.Reading.{IsModel}
 use Rattle.logic_terms.specs.Shown.{claims_of}
 use Rattle.owl_eval.specs.Checked.{kept_interp}
 use Rattle.tableau_rules.specs.Shown.{graph_of}
-use Rattle.reasoner.specs.declared.answer.Verdict.{Verdict}
-use Rattle.reasoner.specs.declared.answer.Verdict.TheVariants.{Consistent, Inconsistent, Spent}
-use Rattle.reasoner.specs.Verdicts.{IfSpent, SpendsAll}
+use Rattle.reasoner.specs.Verdicts.{Verdict, Consistent, Inconsistent, Spent, IfSpent, SpendsAll}
 use Rattle.reasoner.proofs.judging.verdict.Goals as goal
 
 -- what holds anyway holds of a spent verdict
-if_spent : {P : Type 0} → P → (v : Verdict) → IfSpent v (λ _. P)
-if_spent p (Consistent model) = tt
+if_spent : {T P : Type 0} → P → (v : Verdict T) → IfSpent v (λ _. P)
+if_spent p (Consistent shown) = tt
 if_spent p (Inconsistent tree) = tt
 if_spent p (Spent b) = p
 

@@ -3,22 +3,23 @@ ghost use Rattle.std.specs.Prelude.{◌≡◌, ◌≤◌, ◌+◌, ◌↔◌, �
 ghost use Rattle.std.specs.List.{list_any};
 ghost use Rattle.derivation_trees.specs.Partial.{IsBeginning};
 ghost use Rattle.derivation_trees.specs.Sentences.{setting_of};
-ghost use Rattle.derivation_trees.specs.Stands.{IsLimited, IsWithin, at_of};
+ghost use Rattle.derivation_trees.specs.Stands.{IsLimited, IsWithin};
 ghost use Rattle.derivations.specs.Beginnings as beginnings;
 ghost use Rattle.derivations.specs.Enumeration as enumeration;
-ghost use Rattle.derivations.specs.Paths.{path_of};
+ghost use Rattle.derivations.specs.Paths.{path_of, start_of};
 ghost use Rattle.wiki_base.specs.declared.tokens.TheConstants.{MOST_TOKENS};
 
 use crate::choices::{Bound, instances};
 use crate::least::{depth_for, rule_count, text, token_count};
 use crate::listing::{may_begin, opened, step_all};
 use crate::paths::Path;
+use crate::sought::Sought;
 use codeco_checked::CheckedGrammar;
 use codeco_terms::{Element, Rule, Value};
 use derivation_trees::{Setting, readings_of, under};
 use lexicon::Lexicon;
 use lists::List;
-use scopes::{Access, Test};
+use scopes::Access;
 use std::alloc::Global;
 use wiki_base::{Memory, Token};
 
@@ -58,7 +59,12 @@ fn enters(
     match element {
         Element::Sub(category) => {
             let wanted = under(alloc, values, category)?;
-            cut_of(alloc, setting, depth, &wanted, path.place, &path.list)
+            let sought = Sought {
+                wanted: &wanted,
+                place: path.place,
+                list: &path.list,
+            };
+            cut_of(alloc, setting, depth, &sought)
         }
         _ => Ok(false),
     }
@@ -122,9 +128,7 @@ fn instance_cut(
     alloc: Global,
     setting: &Setting<'_>,
     depth: usize,
-    wanted: &Test,
-    place: u16,
-    list: &Access,
+    sought: &Sought<'_>,
     rule: &Rule,
     values: &[(u8, Value)],
 ) -> Result<bool, Memory>
@@ -132,12 +136,12 @@ fn instance_cut(
     requires within { All (IsWithin setting.now.grammar) rule.now.body }
 
     ensures { IfOk result (λ yes. yes ≡ beginnings.instance_cut setting.now (enumeration.trees_of setting.now depth)
-        (beginnings.cut_of setting.now depth) wanted.now (at_of (place, list.now)) rule.now values.now) }
+        (beginnings.cut_of setting.now depth) sought.now.wanted.now (start_of sought.now) rule.now values.now) }
 {
-    if !may_begin(alloc, setting, rule, wanted, values)? {
+    if !may_begin(alloc, setting, rule, sought.wanted, values)? {
         return Ok(false);
     }
-    let start = opened(alloc, rule, values, place, list)?;
+    let start = opened(alloc, rule, values, sought.place, sought.list)?;
     goes_from(alloc, setting, depth, values, rule.body.as_slice(), start)
 }
 
@@ -146,9 +150,7 @@ fn any_instance(
     alloc: Global,
     setting: &Setting<'_>,
     depth: usize,
-    wanted: &Test,
-    place: u16,
-    list: &Access,
+    sought: &Sought<'_>,
     rule: &Rule,
     made: &[Bound],
 ) -> Result<bool, Memory>
@@ -156,19 +158,10 @@ fn any_instance(
     requires within { All (IsWithin setting.now.grammar) rule.now.body }
 
     ensures { IfOk result (λ yes. yes ≡ list_any (beginnings.instance_cut setting.now (enumeration.trees_of setting.now depth)
-        (beginnings.cut_of setting.now depth) wanted.now (at_of (place, list.now)) rule.now) made.now) }
+        (beginnings.cut_of setting.now depth) sought.now.wanted.now (start_of sought.now) rule.now) made.now) }
 {
     for values in made {
-        if instance_cut(
-            alloc,
-            setting,
-            depth,
-            wanted,
-            place,
-            list,
-            rule,
-            values.as_slice(),
-        )? {
+        if instance_cut(alloc, setting, depth, sought, rule, values.as_slice())? {
             return Ok(true);
         }
     }
@@ -181,31 +174,20 @@ fn rule_cut(
     alloc: Global,
     setting: &Setting<'_>,
     depth: usize,
-    wanted: &Test,
-    place: u16,
-    list: &Access,
+    sought: &Sought<'_>,
     rule: &Rule,
 ) -> Result<bool, Memory>
     requires limited { IsLimited setting.now.grammar }
     requires within { All (IsWithin setting.now.grammar) rule.now.body }
 
     ensures { IfOk result (λ yes. yes ≡ beginnings.rule_cut setting.now (enumeration.trees_of setting.now depth)
-        (beginnings.cut_of setting.now depth) wanted.now (at_of (place, list.now)) rule.now) }
+        (beginnings.cut_of setting.now depth) sought.now.wanted.now (start_of sought.now) rule.now) }
 {
-    if rule.head.name != wanted.name {
+    if rule.head.name != sought.wanted.name {
         return Ok(false);
     }
-    let made = instances(alloc, setting, rule, wanted)?;
-    any_instance(
-        alloc,
-        setting,
-        depth,
-        wanted,
-        place,
-        list,
-        rule,
-        made.as_slice(),
-    )
+    let made = instances(alloc, setting, rule, sought.wanted)?;
+    any_instance(alloc, setting, depth, sought, rule, made.as_slice())
 }
 
 #[cycle(cut)]
@@ -213,19 +195,17 @@ fn any_rule(
     alloc: Global,
     setting: &Setting<'_>,
     depth: usize,
-    wanted: &Test,
-    place: u16,
-    list: &Access,
+    sought: &Sought<'_>,
     rules: &[Rule],
 ) -> Result<bool, Memory>
     requires limited { IsLimited setting.now.grammar }
     requires within { All (λ rule. All (IsWithin setting.now.grammar) rule.body) rules.now }
 
     ensures { IfOk result (λ yes. yes ≡ list_any (beginnings.rule_cut setting.now (enumeration.trees_of setting.now depth)
-        (beginnings.cut_of setting.now depth) wanted.now (at_of (place, list.now))) rules.now) }
+        (beginnings.cut_of setting.now depth) sought.now.wanted.now (start_of sought.now)) rules.now) }
 {
     for rule in rules {
-        if rule_cut(alloc, setting, depth, wanted, place, list, rule)? {
+        if rule_cut(alloc, setting, depth, sought, rule)? {
             return Ok(true);
         }
     }
@@ -239,19 +219,17 @@ fn cut_of(
     alloc: Global,
     setting: &Setting<'_>,
     depth: usize,
-    wanted: &Test,
-    place: u16,
-    list: &Access,
+    sought: &Sought<'_>,
 ) -> Result<bool, Memory>
     requires { IsLimited setting.now.grammar }
 
-    ensures { IfOk result (λ yes. yes ≡ beginnings.cut_of setting.now depth wanted.now (at_of (place, list.now))) }
+    ensures { IfOk result (λ yes. yes ≡ beginnings.cut_of setting.now depth sought.now.wanted.now (start_of sought.now)) }
 {
     if depth == 0 {
         return Ok(false);
     }
     let rules = setting.grammar.rules().as_slice();
-    any_rule(alloc, setting, depth - 1, wanted, place, list, rules)
+    any_rule(alloc, setting, depth - 1, sought, rules)
 }
 
 // Whether the setting's tokens have a partial derivation.
@@ -261,8 +239,12 @@ fn has_partial(alloc: Global, setting: &Setting<'_>) -> Result<bool, Memory>
     ensures { IfOk result (λ yes. yes ≡ beginnings.has_partial setting.now) }
 {
     let depth = depth_for(token_count(setting), rule_count(setting))?;
-    let list = Access::empty(alloc);
-    cut_of(alloc, setting, depth, &text(alloc), 0, &list)
+    let sought = Sought {
+        wanted: &text(alloc),
+        place: 0,
+        list: &Access::empty(alloc),
+    };
+    cut_of(alloc, setting, depth, &sought)
 }
 
 // Whether the tokens have a partial derivation.

@@ -14,6 +14,7 @@ ghost use Rattle.wiki_base.specs.declared.tokens.TheConstants.{MOST_TOKENS};
 
 use crate::listing::trees_of;
 use crate::paths::Outcome;
+use crate::sought::Sought;
 use codeco_checked::{CheckedGrammar, FIRST_PLAIN};
 use derivation_trees::{Setting, Skeleton, Tree, check_tree, readings_of, sketch_of};
 use lexicon::Lexicon;
@@ -141,8 +142,12 @@ fn all_trees(alloc: Global, setting: &Setting<'_>, depth: usize) -> Result<List<
     ensures { IfOk result (λ outcomes. map outcome_of outcomes
         ≡ enumeration.trees_of setting.now depth text_category (record { place = 0; list = [] })) }
 {
-    let list = Access::empty(alloc);
-    trees_of(alloc, setting, depth, &text(alloc), 0, &list)
+    let sought = Sought {
+        wanted: &text(alloc),
+        place: 0,
+        list: &Access::empty(alloc),
+    };
+    trees_of(alloc, setting, depth, &sought)
 }
 
 // The least skeleton of the setting's tokens.

@@ -7,6 +7,7 @@ mod entries;
 mod least;
 mod listing;
 mod paths;
+mod sought;
 mod typing;
 mod values;
 

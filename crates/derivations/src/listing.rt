@@ -3,10 +3,11 @@ ghost use Rattle.std.specs.Prelude.{◌≡◌, ◌≤◌, ◌+◌, ◌∷◌, []
 ghost use Rattle.std.specs.List.{flat_map};
 ghost use Rattle.derivation_trees.specs.Stands.{Begins, IsLimited, IsWithin, at_of};
 ghost use Rattle.derivations.specs.Enumeration as enumeration;
-ghost use Rattle.derivations.specs.Paths.{path_of, outcome_of};
+ghost use Rattle.derivations.specs.Paths.{path_of, outcome_of, start_of};
 
 use crate::choices::{Bound, instances};
 use crate::paths::{Outcome, Path, copy_found, copy_pairs, joined, push_passed};
+use crate::sought::Sought;
 use codeco_terms::{Element, Rule, Value};
 use derivation_trees::{
     Binds, Places, Setting, Tree, Trees, closed, fits, is_instance, may_start, own_values, under,
@@ -15,6 +16,13 @@ use lists::List;
 use scopes::{Access, Test};
 use std::alloc::Global;
 use wiki_base::Memory;
+
+// A rule with its number, which is 1 for the first.
+#[derive(Clone, Copy)]
+struct Numbered<'a> {
+    number: u16,
+    rule: &'a Rule,
+}
 
 // Adds the paths after each of the children.
 #[tactic(auto, using(crate::proofs::LoopLemmas::paths_push))]
@@ -54,7 +62,12 @@ fn push_steps(
     match element {
         Element::Sub(category) => {
             let wanted = under(alloc, values, category)?;
-            let children = trees_of(alloc, setting, depth, &wanted, path.place, &path.list)?;
+            let sought = Sought {
+                wanted: &wanted,
+                place: path.place,
+                list: &path.list,
+            };
+            let children = trees_of(alloc, setting, depth, &sought)?;
             push_children(alloc, path, children.as_slice(), out)
         }
         _ => push_passed(alloc, setting, values, element, path, out),
@@ -152,23 +165,22 @@ fn places(alloc: Global, found: &[u16]) -> Result<Places, Memory>
 // The tree at the end of a path.
 fn ended_path(
     alloc: Global,
-    number: u16,
-    rule: &Rule,
+    numbered: &Numbered<'_>,
     values: &[(u8, Value)],
     begun: &Access,
     path: &Path,
 ) -> Result<Outcome, Memory>
     requires { Begins begun.now path.now.list }
     ensures { IfOk result (λ outcome. outcome_of outcome
-        ≡ enumeration.ended_path number rule.now values.now begun.now (path_of path.now)) }
+        ≡ enumeration.ended_path numbered.now.number numbered.now.rule.now values.now begun.now (path_of path.now)) }
 {
     let tree = Tree {
-        rule: number,
+        rule: numbered.number,
         values: binds(alloc, values)?,
         found: places(alloc, path.found.as_slice())?,
         children: path.children.copy(alloc)?,
     };
-    let list = closed(rule, begun, path.list.share()?)?;
+    let list = closed(numbered.rule, begun, path.list.share()?)?;
     Ok(Outcome {
         tree,
         place: path.place,
@@ -180,8 +192,7 @@ fn ended_path(
 #[tactic(auto, using(crate::proofs::LoopLemmas::outcomes_push))]
 fn push_ends(
     alloc: Global,
-    number: u16,
-    rule: &Rule,
+    numbered: &Numbered<'_>,
     values: &[(u8, Value)],
     begun: &Access,
     paths: &[Path],
@@ -189,10 +200,10 @@ fn push_ends(
 ) -> Result<(), Memory>
     requires { All (λ path. Begins begun.now path.list) paths.now }
     ensures { OnOk result (map outcome_of out.new ≡ map outcome_of out.old
-        ++ map (enumeration.ended_path number rule.now values.now begun.now) (map path_of paths.now)) }
+        ++ map (enumeration.ended_path numbered.now.number numbered.now.rule.now values.now begun.now) (map path_of paths.now)) }
 {
     for path in paths {
-        let outcome = ended_path(alloc, number, rule, values, begun, path)?;
+        let outcome = ended_path(alloc, numbered, values, begun, path)?;
         out.push(outcome)?;
     }
     Ok(())
@@ -220,22 +231,21 @@ pub(crate) fn may_begin(
 fn push_instance_ends(
     alloc: Global,
     setting: &Setting<'_>,
-    wanted: &Test,
-    number: u16,
-    rule: &Rule,
+    sought: &Sought<'_>,
+    numbered: &Numbered<'_>,
     values: &[(u8, Value)],
-    begun: &Access,
     paths: &[Path],
     out: &mut List<Outcome>,
 ) -> Result<(), Memory>
-    requires { All (λ path. Begins begun.now path.list) paths.now }
-    ensures { OnOk result (map outcome_of out.new ≡ map outcome_of out.old ++ (if enumeration.may_begin setting.now rule.now wanted.now values.now
-        then map (enumeration.ended_path number rule.now values.now begun.now) (map path_of paths.now) else [])) }
+    requires { All (λ path. Begins sought.now.list.now path.list) paths.now }
+    ensures { OnOk result (map outcome_of out.new
+        ≡ map outcome_of out.old ++ (if enumeration.may_begin setting.now numbered.now.rule.now sought.now.wanted.now values.now
+        then map (enumeration.ended_path numbered.now.number numbered.now.rule.now values.now sought.now.list.now) (map path_of paths.now) else [])) }
 {
-    if paths.len() == 0 || !may_begin(alloc, setting, rule, wanted, values)? {
+    if paths.len() == 0 || !may_begin(alloc, setting, numbered.rule, sought.wanted, values)? {
         return Ok(());
     }
-    push_ends(alloc, number, rule, values, begun, paths, out)
+    push_ends(alloc, numbered, values, sought.list, paths, out)
 }
 
 // Adds the trees with the rule and the instance.
@@ -245,34 +255,31 @@ fn push_instance_trees(
     alloc: Global,
     setting: &Setting<'_>,
     depth: usize,
-    wanted: &Test,
-    place: u16,
-    list: &Access,
-    number: u16,
-    rule: &Rule,
+    sought: &Sought<'_>,
+    numbered: &Numbered<'_>,
     values: &[(u8, Value)],
     out: &mut List<Outcome>,
 ) -> Result<(), Memory>
     requires limited { IsLimited setting.now.grammar }
-    requires within { All (IsWithin setting.now.grammar) rule.now.body }
+    requires within { All (IsWithin setting.now.grammar) numbered.now.rule.now.body }
 
     ensures { OnOk result (map outcome_of out.new ≡ map outcome_of out.old
-        ++ enumeration.instance_trees setting.now (enumeration.trees_of setting.now depth) wanted.now (at_of (place, list.now)) number rule.now values.now) }
+        ++ enumeration.instance_trees setting.now (enumeration.trees_of setting.now depth) sought.now.wanted.now (start_of sought.now) numbered.now.number
+        numbered.now.rule.now values.now) }
 {
+    let rule = numbered.rule;
     let head = under(alloc, values, &rule.head)?;
-    if !fits(&head, wanted) {
+    if !fits(&head, sought.wanted) {
         return Ok(());
     }
-    let start = opened(alloc, rule, values, place, list)?;
+    let start = opened(alloc, rule, values, sought.place, sought.list)?;
     let paths = run_all(alloc, setting, depth, values, rule.body.as_slice(), start)?;
     push_instance_ends(
         alloc,
         setting,
-        wanted,
-        number,
-        rule,
+        sought,
+        numbered,
         values,
-        list,
         paths.as_slice(),
         out,
     )
@@ -284,32 +291,30 @@ fn push_rule_trees(
     alloc: Global,
     setting: &Setting<'_>,
     depth: usize,
-    wanted: &Test,
-    place: u16,
-    list: &Access,
-    number: u16,
-    rule: &Rule,
+    sought: &Sought<'_>,
+    numbered: &Numbered<'_>,
     out: &mut List<Outcome>,
 ) -> Result<(), Memory>
     requires limited { IsLimited setting.now.grammar }
-    requires within { All (IsWithin setting.now.grammar) rule.now.body }
+    requires within { All (IsWithin setting.now.grammar) numbered.now.rule.now.body }
 
     ensures { OnOk result (map outcome_of out.new ≡ map outcome_of out.old
-        ++ enumeration.rule_trees setting.now (enumeration.trees_of setting.now depth) wanted.now (at_of (place, list.now)) number rule.now) }
+        ++ enumeration.rule_trees setting.now (enumeration.trees_of setting.now depth) sought.now.wanted.now (start_of sought.now) numbered.now.number
+        numbered.now.rule.now) }
 {
-    if rule.head.name != wanted.name || !may_start(setting, place, rule.body.as_slice()) {
+    let rule = numbered.rule;
+    if rule.head.name != sought.wanted.name
+        || !may_start(setting, sought.place, rule.body.as_slice())
+    {
         return Ok(());
     }
-    let made = instances(alloc, setting, rule, wanted)?;
+    let made = instances(alloc, setting, rule, sought.wanted)?;
     push_all_instances(
         alloc,
         setting,
         depth,
-        wanted,
-        place,
-        list,
-        number,
-        rule,
+        sought,
+        numbered,
         made.as_slice(),
         out,
     )
@@ -321,31 +326,25 @@ fn push_all_instances(
     alloc: Global,
     setting: &Setting<'_>,
     depth: usize,
-    wanted: &Test,
-    place: u16,
-    list: &Access,
-    number: u16,
-    rule: &Rule,
+    sought: &Sought<'_>,
+    numbered: &Numbered<'_>,
     made: &[Bound],
     out: &mut List<Outcome>,
 ) -> Result<(), Memory>
     requires limited { IsLimited setting.now.grammar }
-    requires within { All (IsWithin setting.now.grammar) rule.now.body }
+    requires within { All (IsWithin setting.now.grammar) numbered.now.rule.now.body }
 
     ensures { OnOk result (map outcome_of out.new ≡ map outcome_of out.old
-        ++ flat_map (enumeration.instance_trees setting.now (enumeration.trees_of setting.now depth) wanted.now (at_of (place, list.now)) number rule.now)
-        made.now) }
+        ++ flat_map (enumeration.instance_trees setting.now (enumeration.trees_of setting.now depth) sought.now.wanted.now (start_of sought.now)
+        numbered.now.number numbered.now.rule.now) made.now) }
 {
     for values in made {
         push_instance_trees(
             alloc,
             setting,
             depth,
-            wanted,
-            place,
-            list,
-            number,
-            rule,
+            sought,
+            numbered,
             values.as_slice(),
             out,
         )?;
@@ -366,9 +365,7 @@ fn push_rules(
     alloc: Global,
     setting: &Setting<'_>,
     depth: usize,
-    wanted: &Test,
-    place: u16,
-    list: &Access,
+    sought: &Sought<'_>,
     rules: &[Rule],
     out: &mut List<Outcome>,
 ) -> Result<(), Memory>
@@ -376,13 +373,12 @@ fn push_rules(
     requires within { All (λ rule. All (IsWithin setting.now.grammar) rule.body) rules.now }
 
     ensures { OnOk result (map outcome_of out.new ≡ map outcome_of out.old
-        ++ enumeration.rules_trees setting.now (enumeration.trees_of setting.now depth) wanted.now (at_of (place, list.now)) 1 rules.now) }
+        ++ enumeration.rules_trees setting.now (enumeration.trees_of setting.now depth) sought.now.wanted.now (start_of sought.now) 1 rules.now) }
 {
     let mut number: u16 = 1;
     for rule in rules {
-        push_rule_trees(
-            alloc, setting, depth, wanted, place, list, number, rule, out,
-        )?;
+        let numbered = Numbered { number, rule };
+        push_rule_trees(alloc, setting, depth, sought, &numbered, out)?;
         number = next_number(number)?;
     }
     Ok(())
@@ -395,28 +391,17 @@ pub(crate) fn trees_of(
     alloc: Global,
     setting: &Setting<'_>,
     depth: usize,
-    wanted: &Test,
-    place: u16,
-    list: &Access,
+    sought: &Sought<'_>,
 ) -> Result<List<Outcome>, Memory>
     requires { IsLimited setting.now.grammar }
 
     ensures { IfOk result (λ out. map outcome_of out
-        ≡ enumeration.trees_of setting.now depth wanted.now (at_of (place, list.now))) }
+        ≡ enumeration.trees_of setting.now depth sought.now.wanted.now (start_of sought.now)) }
 {
     let mut out = List::new(alloc);
     if depth > 0 {
         let rules = setting.grammar.rules().as_slice();
-        push_rules(
-            alloc,
-            setting,
-            depth - 1,
-            wanted,
-            place,
-            list,
-            rules,
-            &mut out,
-        )?;
+        push_rules(alloc, setting, depth - 1, sought, rules, &mut out)?;
     }
     Ok(out)
 }

@@ -1,18 +1,17 @@
 use Rattle.std.proofs.Common.{◌≡◌, ◌<◌, ◌-◌, true, false, map, rules, ap, sym, ◌∙◌}
 use Rattle.std.specs.List.{flat_map, list_any}
 use Rattle.std.proofs.lemmas.Result.{IfOk-weaker}
-use Rattle.derivation_trees.specs.Stands.{at_of}
 use Rattle.derivations.specs.Beginnings as beginnings
 use Rattle.derivations.specs.Enumeration as enumeration
-use Rattle.derivations.specs.Paths.{path_of}
+use Rattle.derivations.specs.Paths.{path_of, start_of}
 use Rattle.derivations.proofs.LoopLemmas.{any_hit, any_miss, goes_entered, goes_further, cut_deeper}
 use Rattle.derivations.proofs.beginnings.+cut.Goals as goal
 
 pub any_instance-returns-then-branch : goal.any_instance-returns-then-branch
 any_instance-returns-then-branch t c =
     let s = c.args.setting.now in
-    let p = beginnings.instance_cut s (enumeration.trees_of s c.args.depth) (beginnings.cut_of s c.args.depth) c.args.wanted.now
-    (at_of (c.args.place, c.args.list.now)) c.args.rule.now in
+    let p = beginnings.instance_cut s (enumeration.trees_of s c.args.depth) (beginnings.cut_of s c.args.depth) c.args.sought.now.wanted.now
+    (start_of c.args.sought.now) c.args.rule.now in
     let yes : c.in_ok-instance_cut.field-0 ≡ true = search rules in
     any_hit p c.args.made.now c.loop-values.values-index c.values-item.result (search rules) c.values-item.is
     (ap p (sym c.as_slice.ensures) ∙ sym c.in_ok-instance_cut.ensures ∙ yes) ∙ c.loop-values.invariant
@@ -20,8 +19,8 @@ any_instance-returns-then-branch t c =
 pub any_instance-loop-values-preserved : goal.any_instance-loop-values-preserved
 any_instance-loop-values-preserved t c =
     let s = c.args.setting.now in
-    let p = beginnings.instance_cut s (enumeration.trees_of s c.args.depth) (beginnings.cut_of s c.args.depth) c.args.wanted.now
-    (at_of (c.args.place, c.args.list.now)) c.args.rule.now in
+    let p = beginnings.instance_cut s (enumeration.trees_of s c.args.depth) (beginnings.cut_of s c.args.depth) c.args.sought.now.wanted.now
+    (start_of c.args.sought.now) c.args.rule.now in
     let no : c.in_ok-instance_cut.field-0 ≡ false = search rules in
     any_miss p c.args.made.now c.loop-values.values-index c.values-item.result (search rules) c.values-item.is
     (ap p (sym c.as_slice.ensures) ∙ sym c.in_ok-instance_cut.ensures ∙ no) ∙ c.loop-values.invariant
@@ -30,9 +29,9 @@ pub cut_of-returns : goal.cut_of-returns
 cut_of-returns t c =
     let s = c.args.setting.now in
     IfOk-weaker c.any_rule.result _ _ (λ yes h. h
-    ∙ ap (list_any (beginnings.rule_cut s (enumeration.trees_of s (c.args.depth - 1)) (beginnings.cut_of s (c.args.depth - 1)) c.args.wanted.now
-    (at_of (c.args.place, c.args.list.now)))) (c.as_slice-rules.ensures ∙ c.rules.ensures ∙ ap (λ x. x.grammar.rules) c.setting.view_is)
-    ∙ cut_deeper s c.args.depth c.args.wanted.now (at_of (c.args.place, c.args.list.now)) c.if-depth-eq0.false) c.any_rule.ensures
+    ∙ ap (list_any (beginnings.rule_cut s (enumeration.trees_of s (c.args.depth - 1)) (beginnings.cut_of s (c.args.depth - 1)) c.args.sought.now.wanted.now
+    (start_of c.args.sought.now))) (c.as_slice-rules.ensures ∙ c.rules.ensures ∙ ap (λ x. x.grammar.rules) c.setting.view_is)
+    ∙ cut_deeper s c.args.depth c.args.sought.now.wanted.now (start_of c.args.sought.now) c.if-depth-eq0.false) c.any_rule.ensures
 
 pub goes_from-returns-then-branch : goal.goes_from-returns-then-branch
 goes_from-returns-then-branch t c =

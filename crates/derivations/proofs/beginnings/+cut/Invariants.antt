@@ -1,9 +1,8 @@
 use Rattle.std.proofs.Common.{◌≡◌, ◌+◌, ◌*◌, [], ◌∷◌, drop, map}
 use Rattle.std.specs.List.{list_any}
-use Rattle.derivation_trees.specs.Stands.{at_of}
 use Rattle.derivations.specs.Beginnings as beginnings
 use Rattle.derivations.specs.Enumeration as enumeration
-use Rattle.derivations.specs.Paths.{path_of}
+use Rattle.derivations.specs.Paths.{path_of, start_of}
 use Rattle.derivations.proofs.beginnings.+cut.Given as goal
 
 abbrev pub invariant-any_enters-loop-path : goal.invariant-any_enters-loop-path
@@ -19,16 +18,17 @@ invariant-goes_from-loop-element l =
 
 abbrev pub invariant-any_instance-loop-values : goal.invariant-any_instance-loop-values
 invariant-any_instance-loop-values l =
-    list_any (beginnings.instance_cut l.setting (enumeration.trees_of l.setting l.depth) (beginnings.cut_of l.setting l.depth) l.wanted
-    (at_of (l.place, l.list)) l.rule) (drop l.values-index l.made)
-    ≡ list_any (beginnings.instance_cut l.setting (enumeration.trees_of l.setting l.depth) (beginnings.cut_of l.setting l.depth) l.wanted
-    (at_of (l.place, l.list)) l.rule) l.made
+    list_any (beginnings.instance_cut l.setting (enumeration.trees_of l.setting l.depth) (beginnings.cut_of l.setting l.depth) l.sought.wanted.now
+    (start_of l.sought) l.rule) (drop l.values-index l.made)
+    ≡ list_any (beginnings.instance_cut l.setting (enumeration.trees_of l.setting l.depth) (beginnings.cut_of l.setting l.depth) l.sought.wanted.now
+    (start_of l.sought) l.rule) l.made
 
 abbrev pub invariant-any_rule-loop-rule : goal.invariant-any_rule-loop-rule
 invariant-any_rule-loop-rule l =
-    list_any (beginnings.rule_cut l.setting (enumeration.trees_of l.setting l.depth) (beginnings.cut_of l.setting l.depth) l.wanted (at_of (l.place, l.list)))
+    list_any (beginnings.rule_cut l.setting (enumeration.trees_of l.setting l.depth) (beginnings.cut_of l.setting l.depth) l.sought.wanted.now
+    (start_of l.sought))
     (drop l.rule-index l.rules) ≡ list_any
-    (beginnings.rule_cut l.setting (enumeration.trees_of l.setting l.depth) (beginnings.cut_of l.setting l.depth) l.wanted (at_of (l.place, l.list)))
+    (beginnings.rule_cut l.setting (enumeration.trees_of l.setting l.depth) (beginnings.cut_of l.setting l.depth) l.sought.wanted.now (start_of l.sought))
     l.rules
 
 abbrev pub decreases-cut_of : goal.decreases-cut_of

@@ -1,7 +1,6 @@
 use Rattle.std.proofs.Common.{◌≡◌, ◌+◌, ◌*◌, [], ◌∷◌, ◌++◌, take, drop, map}
 use Rattle.derivations.specs.Enumeration as enumeration
-use Rattle.derivations.specs.Paths.{path_of, outcome_of}
-use Rattle.derivation_trees.specs.Stands.{at_of}
+use Rattle.derivations.specs.Paths.{path_of, outcome_of, start_of}
 use Rattle.std.specs.List.{flat_map}
 use Rattle.derivations.proofs.listing.+listing.Given as goal
 
@@ -18,14 +17,15 @@ invariant-run_all-loop-element l =
 abbrev pub invariant-push_all_instances-loop-values : goal.invariant-push_all_instances-loop-values
 invariant-push_all_instances-loop-values l =
     map outcome_of l.out ≡ map outcome_of l.initial.out
-    ++ flat_map (enumeration.instance_trees l.setting (enumeration.trees_of l.setting l.depth) l.wanted (at_of (l.place, l.list)) l.number l.rule)
+    ++ flat_map (enumeration.instance_trees l.setting (enumeration.trees_of l.setting l.depth) l.sought.wanted.now (start_of l.sought) l.numbered.number
+    l.numbered.rule.now)
     (take l.values-index l.made)
 
 abbrev pub invariant-push_rules-loop-rule : goal.invariant-push_rules-loop-rule
 invariant-push_rules-loop-rule l =
-    map outcome_of l.out ++ enumeration.rules_trees l.setting (enumeration.trees_of l.setting l.depth) l.wanted (at_of (l.place, l.list)) l.number
+    map outcome_of l.out ++ enumeration.rules_trees l.setting (enumeration.trees_of l.setting l.depth) l.sought.wanted.now (start_of l.sought) l.number
     (drop l.rule-index l.rules) ≡ map outcome_of l.initial.out
-    ++ enumeration.rules_trees l.setting (enumeration.trees_of l.setting l.depth) l.wanted (at_of (l.place, l.list)) 1 l.rules
+    ++ enumeration.rules_trees l.setting (enumeration.trees_of l.setting l.depth) l.sought.wanted.now (start_of l.sought) 1 l.rules
 
 abbrev pub decreases-trees_of : goal.decreases-trees_of
 decreases-trees_of l = 8 * l.depth + 0

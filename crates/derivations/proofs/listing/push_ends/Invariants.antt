@@ -6,4 +6,4 @@ use Rattle.derivations.proofs.listing.push_ends.Given as goal
 abbrev pub invariant-loop-path : goal.invariant-loop-path
 invariant-loop-path l =
     map outcome_of l.out ≡ map outcome_of l.initial.out
-    ++ map (enumeration.ended_path l.number l.rule l.values l.begun) (map path_of (take l.path-index l.paths))
+    ++ map (enumeration.ended_path l.numbered.number l.numbered.rule.now l.values l.begun) (map path_of (take l.path-index l.paths))

@@ -1,5 +1,5 @@
 // The instances of a rule that lead somewhere.
-ghost use Rattle.std.specs.Prelude.{◌≡◌, ◌+◌, ◌<◌, ◌∷◌, [], ◌++◌, map, ℕ, List, Some, IfOk, OnOk, IsTrue, take, flat_map};
+ghost use Rattle.std.specs.Prelude.{◌≡◌, ◌↔◌, ◌+◌, ◌<◌, ◌∷◌, [], ◌++◌, map, ℕ, List, Some, IfOk, OnOk, IsTrue, take, flat_map};
 ghost use Rattle.codeco_checked.specs.Occurrences.{positions};
 ghost use Rattle.derivation_trees.specs.Instances as instances;
 ghost use Rattle.chart_table.specs.Choices as choosing;
@@ -25,14 +25,14 @@ use std::cell::Cell;
 use wiki_base::Memory;
 
 fn same_value(one: (u8, Value), other: (u8, Value)) -> bool
-    ensures { IsTrue result → one ≡ other }
+    ensures { IsTrue result ↔ one ≡ other }
 {
     one.0 == other.0 && one.1 == other.1
 }
 
 /// Whether the assignments are the same, in the same order.
 pub fn same_bound(values: &[(u8, Value)], others: &[(u8, Value)]) -> bool
-    ensures { IsTrue result → values.now ≡ others.now }
+    ensures { IsTrue result ↔ values.now ≡ others.now }
 {
     if values.len() != others.len() {
         return false;

@@ -11,7 +11,7 @@ use std::alloc::Global;
 use wiki_base::Memory;
 
 fn is_state(one: &State, other: &State) -> bool
-    ensures { IsTrue result → one.now ≡ other.now }
+    ensures { IsTrue result ↔ one.now ≡ other.now }
 {
     one.place == other.place
         && same_bound(one.binds.as_slice(), other.binds.as_slice())

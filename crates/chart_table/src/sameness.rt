@@ -31,7 +31,7 @@ pub fn same_values(values: &[(u16, Value)], others: &[(u16, Value)]) -> bool
 
 // Whether the ends are the same.
 pub(crate) fn same_end(one: &End, other: &End) -> bool
-    ensures { IsTrue result → one.now ≡ other.now }
+    ensures { IsTrue result ↔ one.now ≡ other.now }
 {
     one.place == other.place
         && same_values(one.values.as_slice(), other.values.as_slice())

@@ -12,11 +12,12 @@ use crate::branches::{alone, bind_term, copy_bound, known_value, meeting, read_a
 use crate::choices::{Plan, choices};
 use crate::ends::{finished, has_values, is_instance, values_of_all};
 use crate::sameness::{same_pair, same_values};
-use crate::states::{Aim, Bound, Cut, Feat, State};
+use crate::scene::Trial;
+use crate::states::{Bound, Cut, Feat, State};
 use crate::steps::close;
 use crate::told::push_many_within;
 use codeco_terms::{Category, Element, Ground, Rule, Value};
-use derivation_trees::{Setting, term_value, under};
+use derivation_trees::{term_value, under};
 use lists::List;
 use scopes::{Access, TestValues};
 use std::alloc::Global;
@@ -109,40 +110,38 @@ fn guess(alloc: Global, plan: &Plan, bound: &[(u8, Value)]) -> Result<Bound, Mem
 }
 
 // Whether some instance of the rule extends the assignment.
-fn is_possible(
-    alloc: Global,
-    setting: &Setting<'_>,
-    rule: &Rule,
-    plan: &Plan,
-    bound: &[(u8, Value)],
-) -> Result<bool, Memory>
-    requires { choosing.IsPlan setting.now rule.now plan.now }
-    ensures { IfOk result (λ yes. IsTrue yes ↔ cutting.IsPossible setting.now rule.now bound.now) }
+fn is_possible(trial: &Trial<'_>, bound: &[(u8, Value)]) -> Result<bool, Memory>
+    requires { choosing.IsPlan trial.now.setting.now trial.now.rule.now trial.now.plan.now }
+    ensures { IfOk result (λ yes. IsTrue yes ↔ cutting.IsPossible trial.now.setting.now trial.now.rule.now bound.now) }
 {
-    let guess = guess(alloc, plan, bound)?;
-    if is_instance(setting, rule, plan, guess.as_slice()) && has_values(guess.as_slice(), bound) {
+    let setting = trial.setting;
+    let guess = guess(trial.alloc, trial.plan, bound)?;
+    if is_instance(setting, trial.rule, trial.plan, guess.as_slice())
+        && has_values(guess.as_slice(), bound)
+    {
         return Ok(true);
     }
-    is_extended(alloc, setting, rule, plan, bound)
+    is_extended(trial, bound)
 }
 
 // Whether some instance of the rule extends the assignment, by trying all.
-fn is_extended(
-    alloc: Global,
-    setting: &Setting<'_>,
-    rule: &Rule,
-    plan: &Plan,
-    bound: &[(u8, Value)],
-) -> Result<bool, Memory>
-    requires { choosing.IsPlan setting.now rule.now plan.now }
-    ensures { IfOk result (λ yes. IsTrue yes ↔ cutting.IsPossible setting.now rule.now bound.now) }
+fn is_extended(trial: &Trial<'_>, bound: &[(u8, Value)]) -> Result<bool, Memory>
+    requires { choosing.IsPlan trial.now.setting.now trial.now.rule.now trial.now.plan.now }
+    ensures { IfOk result (λ yes. IsTrue yes ↔ cutting.IsPossible trial.now.setting.now trial.now.rule.now bound.now) }
 {
     let state = State {
-        binds: copy_bound(alloc, bound)?,
+        binds: copy_bound(trial.alloc, bound)?,
         place: 0,
-        list: Access::empty(alloc),
+        list: Access::empty(trial.alloc),
     };
-    let ends = finished(alloc, setting, rule, plan, &state.list, &state)?;
+    let ends = finished(
+        trial.alloc,
+        trial.setting,
+        trial.rule,
+        trial.plan,
+        &state.list,
+        &state,
+    )?;
     Ok(!ends.is_empty())
 }
 
@@ -165,23 +164,21 @@ pub(crate) fn push_cut(
 
 // Adds the head that the assignment tells, where some instance extends it.
 fn push_head(
-    alloc: Global,
-    setting: &Setting<'_>,
-    rule: &Rule,
-    plan: &Plan,
+    trial: &Trial<'_>,
     number: usize,
     bound: &[(u8, Value)],
     cuts: &mut List<Cut>,
 ) -> Result<(), Memory>
-    requires plan { choosing.IsPlan setting.now rule.now plan.now }
-    requires settled { cutting.Settles rule.now bound.now }
-    ensures { OnOk result (cutting.HasHeads setting.now rule.now (cutting.IsOf number (bound.now ∷ [])) cuts.old cuts.new) }
+    requires plan { choosing.IsPlan trial.now.setting.now trial.now.rule.now trial.now.plan.now }
+    requires settled { cutting.Settles trial.now.rule.now bound.now }
+    ensures { OnOk result (cutting.HasHeads trial.now.setting.now trial.now.rule.now (cutting.IsOf number (bound.now ∷ [])) cuts.old cuts.new) }
 {
-    if has_head(cuts.as_slice(), number, bound, rule.head.feats.as_slice()) {
+    let feats = trial.rule.head.feats.as_slice();
+    if has_head(cuts.as_slice(), number, bound, feats) {
         return Ok(());
     }
-    if is_possible(alloc, setting, rule, plan, bound)? {
-        let head = under(alloc, bound, &rule.head)?;
+    if is_possible(trial, bound)? {
+        let head = under(trial.alloc, bound, &trial.rule.head)?;
         push_cut(number, head.values, cuts)?;
         return Ok(());
     }
@@ -190,40 +187,35 @@ fn push_head(
 
 // Adds the heads that the assignments tell, where some instance extends them.
 fn push_settled(
-    alloc: Global,
-    setting: &Setting<'_>,
-    rule: &Rule,
-    plan: &Plan,
+    trial: &Trial<'_>,
     number: usize,
     bounds: &[Bound],
     cuts: &mut List<Cut>,
 ) -> Result<(), Memory>
-    requires plan { choosing.IsPlan setting.now rule.now plan.now }
-    requires settled { cutting.AllSettle rule.now bounds.now }
-    ensures { OnOk result (cutting.HasHeads setting.now rule.now (cutting.IsOf number bounds.now) cuts.old cuts.new) }
+    requires plan { choosing.IsPlan trial.now.setting.now trial.now.rule.now trial.now.plan.now }
+    requires settled { cutting.AllSettle trial.now.rule.now bounds.now }
+    ensures { OnOk result (cutting.HasHeads trial.now.setting.now trial.now.rule.now (cutting.IsOf number bounds.now) cuts.old cuts.new) }
 {
     for bound in bounds {
-        push_head(alloc, setting, rule, plan, number, bound.as_slice(), cuts)?;
+        push_head(trial, number, bound.as_slice(), cuts)?;
     }
     Ok(())
 }
 
 // Adds the heads of the instances that extend the assignment, which is closed first.
 fn push_closed(
-    alloc: Global,
-    setting: &Setting<'_>,
-    rule: &Rule,
-    plan: &Plan,
+    trial: &Trial<'_>,
     number: usize,
     bound: &[(u8, Value)],
     cuts: &mut List<Cut>,
 ) -> Result<(), Memory>
-    requires { choosing.IsPlan setting.now rule.now plan.now }
-    ensures { OnOk result (cutting.HasHeads setting.now rule.now (cutting.IsOf number (bound.now ∷ [])) cuts.old cuts.new) }
+    requires { choosing.IsPlan trial.now.setting.now trial.now.rule.now trial.now.plan.now }
+    ensures { OnOk result (cutting.HasHeads trial.now.setting.now trial.now.rule.now (cutting.IsOf number (bound.now ∷ [])) cuts.old cuts.new) }
 {
-    let one = alone(alloc, bound)?;
-    let settled = close(alloc, setting, plan, rule.head.feats.as_slice(), one)?;
-    push_settled(alloc, setting, rule, plan, number, settled.as_slice(), cuts)?;
+    let one = alone(trial.alloc, bound)?;
+    let feats = trial.rule.head.feats.as_slice();
+    let settled = close(trial.alloc, trial.setting, trial.plan, feats, one)?;
+    push_settled(trial, number, settled.as_slice(), cuts)?;
     Ok(())
 }
 
@@ -242,21 +234,18 @@ fn settles(bound: &[(u8, Value)], rule: &Rule) -> bool
 
 // Adds the heads of the instances that extend the assignment: the head that it tells, where it tells one.
 fn push_last(
-    alloc: Global,
-    setting: &Setting<'_>,
-    rule: &Rule,
-    plan: &Plan,
+    trial: &Trial<'_>,
     number: usize,
     bound: &[(u8, Value)],
     cuts: &mut List<Cut>,
 ) -> Result<(), Memory>
-    requires { choosing.IsPlan setting.now rule.now plan.now }
-    ensures { OnOk result (cutting.HasHeads setting.now rule.now (cutting.IsOf number (bound.now ∷ [])) cuts.old cuts.new) }
+    requires { choosing.IsPlan trial.now.setting.now trial.now.rule.now trial.now.plan.now }
+    ensures { OnOk result (cutting.HasHeads trial.now.setting.now trial.now.rule.now (cutting.IsOf number (bound.now ∷ [])) cuts.old cuts.new) }
 {
-    if settles(bound, rule) {
-        push_head(alloc, setting, rule, plan, number, bound, cuts)
+    if settles(bound, trial.rule) {
+        push_head(trial, number, bound, cuts)
     } else {
-        push_closed(alloc, setting, rule, plan, number, bound, cuts)
+        push_closed(trial, number, bound, cuts)
     }
 }
 
@@ -264,27 +253,22 @@ fn push_last(
 // known has each of its choices.
 #[cycle(heads)]
 fn push_from(
-    alloc: Global,
-    setting: &Setting<'_>,
-    rule: &Rule,
-    plan: &Plan,
+    trial: &Trial<'_>,
     number: usize,
     feats: &[Feat],
     bound: &[(u8, Value)],
     cuts: &mut List<Cut>,
 ) -> Result<(), Memory>
-    requires { choosing.IsPlan setting.now rule.now plan.now }
-    ensures { OnOk result (cutting.HasHeads setting.now rule.now (cutting.IsOf number (bound.now ∷ [])) cuts.old cuts.new) }
+    requires { choosing.IsPlan trial.now.setting.now trial.now.rule.now trial.now.plan.now }
+    ensures { OnOk result (cutting.HasHeads trial.now.setting.now trial.now.rule.now (cutting.IsOf number (bound.now ∷ [])) cuts.old cuts.new) }
 {
     match feats {
-        [] => push_last(alloc, setting, rule, plan, number, bound, cuts),
+        [] => push_last(trial, number, bound, cuts),
         [feat, later @ ..] => {
             if known_value(bound, feat.1).is_some() {
-                push_from(alloc, setting, rule, plan, number, later, bound, cuts)
+                push_from(trial, number, later, bound, cuts)
             } else {
-                push_each(
-                    alloc, setting, rule, plan, number, *feat, later, bound, cuts,
-                )
+                push_each(trial, number, *feat, later, bound, cuts)
             }
         }
     }
@@ -293,24 +277,21 @@ fn push_from(
 // Adds the heads of the instances that extend the assignment, with each choice for a feature.
 #[cycle(heads)]
 fn push_each(
-    alloc: Global,
-    setting: &Setting<'_>,
-    rule: &Rule,
-    plan: &Plan,
+    trial: &Trial<'_>,
     number: usize,
     feat: Feat,
     later: &[Feat],
     bound: &[(u8, Value)],
     cuts: &mut List<Cut>,
 ) -> Result<(), Memory>
-    requires plan { choosing.IsPlan setting.now rule.now plan.now }
+    requires plan { choosing.IsPlan trial.now.setting.now trial.now.rule.now trial.now.plan.now }
     requires unknown { branches.known_value bound.now feat.1 ≡ None }
-    ensures { OnOk result (cutting.HasHeads setting.now rule.now (cutting.IsOf number (bound.now ∷ [])) cuts.old cuts.new) }
+    ensures { OnOk result (cutting.HasHeads trial.now.setting.now trial.now.rule.now (cutting.IsOf number (bound.now ∷ [])) cuts.old cuts.new) }
 {
-    let values = choices(alloc, setting, plan, feat.1)?;
+    let values = choices(trial.alloc, trial.setting, trial.plan, feat.1)?;
     for value in values.as_slice() {
-        let more = bind_term(alloc, bound, feat.1, *value)?;
-        push_some(alloc, setting, rule, plan, number, later, more, cuts)?;
+        let more = bind_term(trial.alloc, bound, feat.1, *value)?;
+        push_some(trial, number, later, more, cuts)?;
     }
     Ok(())
 }
@@ -318,60 +299,34 @@ fn push_each(
 // Adds the heads of the instances that extend the assignment, if there is one.
 #[cycle(heads)]
 fn push_some(
-    alloc: Global,
-    setting: &Setting<'_>,
-    rule: &Rule,
-    plan: &Plan,
+    trial: &Trial<'_>,
     number: usize,
     later: &[Feat],
     more: Option<Bound>,
     cuts: &mut List<Cut>,
 ) -> Result<(), Memory>
-    requires { choosing.IsPlan setting.now rule.now plan.now }
-    ensures { OnOk result (cutting.HasHeads setting.now rule.now (cutting.IsOf number (cons_option more [])) cuts.old cuts.new) }
+    requires { choosing.IsPlan trial.now.setting.now trial.now.rule.now trial.now.plan.now }
+    ensures { OnOk result (cutting.HasHeads trial.now.setting.now trial.now.rule.now (cutting.IsOf number (cons_option more [])) cuts.old cuts.new) }
 {
     match more {
         None => Ok(()),
-        Some(bound) => {
-            push_from(
-                alloc,
-                setting,
-                rule,
-                plan,
-                number,
-                later,
-                bound.as_slice(),
-                cuts,
-            )
-        }
+        Some(bound) => push_from(trial, number, later, bound.as_slice(), cuts),
     }
 }
 
 // Adds the heads of the instances that extend the assignments.
 pub(crate) fn push_heads(
-    alloc: Global,
-    setting: &Setting<'_>,
-    rule: &Rule,
-    plan: &Plan,
+    trial: &Trial<'_>,
     number: usize,
     bounds: &[Bound],
     cuts: &mut List<Cut>,
 ) -> Result<(), Memory>
-    requires { choosing.IsPlan setting.now rule.now plan.now }
-    ensures { OnOk result (cutting.HasHeads setting.now rule.now (cutting.IsOf number bounds.now) cuts.old cuts.new) }
+    requires { choosing.IsPlan trial.now.setting.now trial.now.rule.now trial.now.plan.now }
+    ensures { OnOk result (cutting.HasHeads trial.now.setting.now trial.now.rule.now (cutting.IsOf number bounds.now) cuts.old cuts.new) }
 {
-    let feats = rule.head.feats.as_slice();
+    let feats = trial.rule.head.feats.as_slice();
     for bound in bounds {
-        push_from(
-            alloc,
-            setting,
-            rule,
-            plan,
-            number,
-            feats,
-            bound.as_slice(),
-            cuts,
-        )?;
+        push_from(trial, number, feats, bound.as_slice(), cuts)?;
     }
     Ok(())
 }
@@ -439,75 +394,57 @@ fn met_bounds(
 
 // Adds the phrases of the rule that are cut off in a state, where the next element meets the ask.
 fn push_met(
-    alloc: Global,
-    setting: &Setting<'_>,
-    rule: &Rule,
-    plan: &Plan,
+    trial: &Trial<'_>,
     next: Option<&Element>,
     number: usize,
     ask: &Ask,
     bound: &[(u8, Value)],
     cuts: &mut List<Cut>,
 ) -> Result<(), Memory>
-    requires { choosing.IsPlan setting.now rule.now plan.now }
-    ensures { OnOk result (cutting.HasHeads setting.now rule.now
+    requires { choosing.IsPlan trial.now.setting.now trial.now.rule.now trial.now.plan.now }
+    ensures { OnOk result (cutting.HasHeads trial.now.setting.now trial.now.rule.now
         (cutting.MeetsOne (option_map (λ e. e.now) next.entry) bound.now number ask.now) cuts.old cuts.new) }
 {
-    let bounds = met_bounds(alloc, next, bound, ask)?;
+    let bounds = met_bounds(trial.alloc, next, bound, ask)?;
     if bounds.is_empty() {
         return Ok(());
     }
-    push_heads(alloc, setting, rule, plan, number, bounds.as_slice(), cuts)?;
+    push_heads(trial, number, bounds.as_slice(), cuts)?;
     Ok(())
 }
 
 // Adds the phrases of the rule that are cut off in a state, where the next element meets one of the asks.
 fn push_asked(
-    alloc: Global,
-    setting: &Setting<'_>,
+    trial: &Trial<'_>,
     asks: &[Ask],
-    rule: &Rule,
-    plan: &Plan,
     next: Option<&Element>,
     bound: &[(u8, Value)],
     cuts: &mut List<Cut>,
 ) -> Result<(), Memory>
-    requires { choosing.IsPlan setting.now rule.now plan.now }
-    ensures { OnOk result (cutting.HasHeads setting.now rule.now
+    requires { choosing.IsPlan trial.now.setting.now trial.now.rule.now trial.now.plan.now }
+    ensures { OnOk result (cutting.HasHeads trial.now.setting.now trial.now.rule.now
         (cutting.OneBefore asks.now (cutting.MeetsOne (option_map (λ e. e.now) next.entry) bound.now) (length asks.now)) cuts.old cuts.new) }
 {
     for (number, ask) in asks.iter().enumerate() {
-        push_met(alloc, setting, rule, plan, next, number, ask, bound, cuts)?;
+        push_met(trial, next, number, ask, bound, cuts)?;
     }
     Ok(())
 }
 
 // Adds the phrases of the rule that are cut off in a state, if it stands at the place.
 fn push_cut_here(
-    alloc: Global,
-    setting: &Setting<'_>,
-    aim: &Aim<'_>,
-    rule: &Rule,
-    plan: &Plan,
+    trial: &Trial<'_>,
     next: Option<&Element>,
     state: &State,
     cuts: &mut List<Cut>,
 ) -> Result<(), Memory>
-    requires { choosing.IsPlan setting.now rule.now plan.now }
-    ensures { OnOk result (cutting.HasHeads setting.now rule.now
-        (λ j v. cutting.Halts aim.now (option_map (λ e. e.now) next.entry) j v state.now) cuts.old cuts.new) }
+    requires { choosing.IsPlan trial.now.setting.now trial.now.rule.now trial.now.plan.now }
+    ensures { OnOk result (cutting.HasHeads trial.now.setting.now trial.now.rule.now
+        (λ j v. cutting.Halts trial.now.aim.now (option_map (λ e. e.now) next.entry) j v state.now) cuts.old cuts.new) }
 {
+    let aim = trial.aim;
     if state.place as usize == aim.halt {
-        push_asked(
-            alloc,
-            setting,
-            aim.asks,
-            rule,
-            plan,
-            next,
-            state.binds.as_slice(),
-            cuts,
-        )?;
+        push_asked(trial, aim.asks, next, state.binds.as_slice(), cuts)?;
         return Ok(());
     }
     Ok(())
@@ -515,42 +452,35 @@ fn push_cut_here(
 
 // Adds the phrases of the rule that are cut off in those of the states that stand at the place.
 pub(crate) fn push_cuts_here(
-    alloc: Global,
-    setting: &Setting<'_>,
-    aim: &Aim<'_>,
-    rule: &Rule,
-    plan: &Plan,
+    trial: &Trial<'_>,
     next: Option<&Element>,
     states: &[State],
     cuts: &mut List<Cut>,
 ) -> Result<(), Memory>
-    requires { choosing.IsPlan setting.now rule.now plan.now }
-    ensures { OnOk result (cutting.HasHeads setting.now rule.now
-        (λ j v. cutting.Among (cutting.Halts aim.now (option_map (λ e. e.now) next.entry) j v) states.now) cuts.old cuts.new) }
+    requires { choosing.IsPlan trial.now.setting.now trial.now.rule.now trial.now.plan.now }
+    ensures { OnOk result (cutting.HasHeads trial.now.setting.now trial.now.rule.now
+        (λ j v. cutting.Among (cutting.Halts trial.now.aim.now (option_map (λ e. e.now) next.entry) j v) states.now) cuts.old cuts.new) }
 {
     for state in states {
-        push_cut_here(alloc, setting, aim, rule, plan, next, state, cuts)?;
+        push_cut_here(trial, next, state, cuts)?;
     }
     Ok(())
 }
 
 // Adds the phrases of the rule whose next element, a category, is cut off so.
 fn push_cut_within(
-    alloc: Global,
-    setting: &Setting<'_>,
-    rule: &Rule,
-    plan: &Plan,
+    trial: &Trial<'_>,
     category: &Category,
     bound: &[(u8, Value)],
     cut: &Cut,
     cuts: &mut List<Cut>,
 ) -> Result<(), Memory>
-    requires { choosing.IsPlan setting.now rule.now plan.now }
-    ensures { OnOk result (cutting.HasHeads setting.now rule.now
+    requires { choosing.IsPlan trial.now.setting.now trial.now.rule.now trial.now.plan.now }
+    ensures { OnOk result (cutting.HasHeads trial.now.setting.now trial.now.rule.now
         (cutting.IsOf cut.now.ask (cutting.within_binds category.now bound.now cut.now)) cuts.old cuts.new) }
 {
     let bounds = meeting(
-        alloc,
+        trial.alloc,
         cut.values.as_slice(),
         category.feats.as_slice(),
         bound,
@@ -558,49 +488,43 @@ fn push_cut_within(
     if bounds.is_empty() {
         return Ok(());
     }
-    push_heads(alloc, setting, rule, plan, cut.ask, bounds.as_slice(), cuts)?;
+    push_heads(trial, cut.ask, bounds.as_slice(), cuts)?;
     Ok(())
 }
 
 // Adds the phrases of the rule whose next element, a category, is cut off in one of these ways.
 fn push_few_within(
-    alloc: Global,
-    setting: &Setting<'_>,
-    rule: &Rule,
-    plan: &Plan,
+    trial: &Trial<'_>,
     category: &Category,
     bound: &[(u8, Value)],
     within: &[Cut],
     cuts: &mut List<Cut>,
 ) -> Result<(), Memory>
-    requires { choosing.IsPlan setting.now rule.now plan.now }
-    ensures { OnOk result (cutting.HasHeads setting.now rule.now
+    requires { choosing.IsPlan trial.now.setting.now trial.now.rule.now trial.now.plan.now }
+    ensures { OnOk result (cutting.HasHeads trial.now.setting.now trial.now.rule.now
         (cutting.OneBefore within.now (cutting.MeetsCut category.now bound.now) (length within.now)) cuts.old cuts.new) }
 {
     for cut in within {
-        push_cut_within(alloc, setting, rule, plan, category, bound, cut, cuts)?;
+        push_cut_within(trial, category, bound, cut, cuts)?;
     }
     Ok(())
 }
 
 // Adds the phrases of the rule whose next element, a category, is cut off in one of these ways.
 pub(crate) fn push_cuts_within(
-    alloc: Global,
-    setting: &Setting<'_>,
-    rule: &Rule,
-    plan: &Plan,
+    trial: &Trial<'_>,
     category: &Category,
     bound: &[(u8, Value)],
     within: &[Cut],
     cuts: &mut List<Cut>,
 ) -> Result<(), Memory>
-    requires { choosing.IsPlan setting.now rule.now plan.now }
-    ensures { OnOk result (cutting.HasHeads setting.now rule.now
+    requires { choosing.IsPlan trial.now.setting.now trial.now.rule.now trial.now.plan.now }
+    ensures { OnOk result (cutting.HasHeads trial.now.setting.now trial.now.rule.now
         (cutting.OneBefore within.now (cutting.MeetsCut category.now bound.now) (length within.now)) cuts.old cuts.new) }
 {
     if within.len() > FEW {
-        push_many_within(alloc, setting, rule, plan, category, bound, within, cuts)
+        push_many_within(trial, category, bound, within, cuts)
     } else {
-        push_few_within(alloc, setting, rule, plan, category, bound, within, cuts)
+        push_few_within(trial, category, bound, within, cuts)
     }
 }

@@ -11,6 +11,7 @@ use crate::branches::alone;
 use crate::choices::Plan;
 use crate::ends::{as_terms, values_of_all};
 use crate::rows::Rows;
+use crate::scene::{Start, Trial};
 use crate::sentences::DEEPEST;
 use crate::states::{Aim, Bound, State};
 use crate::steps::close;
@@ -19,7 +20,6 @@ use codeco_checked::NUMBERS;
 use codeco_terms::{Rule, Value};
 use derivation_trees::{Setting, may_start};
 use lists::List;
-use scopes::Access;
 use std::alloc::Global;
 use std::cell::Cell;
 use wiki_base::Memory;
@@ -85,17 +85,16 @@ fn push_bounds(
 }
 
 // Adds the values of all variables in a state, in each way.
-fn push_state(
-    alloc: Global,
-    setting: &Setting<'_>,
-    rule: &Rule,
-    plan: &Plan,
-    state: &State,
-    out: &mut List<Bound>,
-) -> Result<(), Memory>
-    requires { choosing.IsPlan setting.now rule.now plan.now }
-    ensures { OnOk result (finding.HasMore out.old out.new (finding.closed_values setting.now rule.now state.now)) }
+fn push_state(trial: &Trial<'_>, state: &State, out: &mut List<Bound>) -> Result<(), Memory>
+    requires { choosing.IsPlan trial.now.setting.now trial.now.rule.now trial.now.plan.now }
+    ensures { OnOk result (finding.HasMore out.old out.new (finding.closed_values trial.now.setting.now trial.now.rule.now state.now)) }
 {
+    let Trial {
+        alloc,
+        setting,
+        plan,
+        ..
+    } = *trial;
     let terms = as_terms(alloc, plan.variables.as_slice())?;
     let one = alone(alloc, state.binds.as_slice())?;
     let bounds = close(alloc, setting, plan, terms.as_slice(), one)?;
@@ -103,19 +102,12 @@ fn push_state(
 }
 
 // Adds the values of all variables in each of the states.
-fn push_states(
-    alloc: Global,
-    setting: &Setting<'_>,
-    rule: &Rule,
-    plan: &Plan,
-    states: &[State],
-    out: &mut List<Bound>,
-) -> Result<(), Memory>
-    requires { choosing.IsPlan setting.now rule.now plan.now }
-    ensures { OnOk result (finding.HasStates setting.now rule.now states.now out.old out.new) }
+fn push_states(trial: &Trial<'_>, states: &[State], out: &mut List<Bound>) -> Result<(), Memory>
+    requires { choosing.IsPlan trial.now.setting.now trial.now.rule.now trial.now.plan.now }
+    ensures { OnOk result (finding.HasStates trial.now.setting.now trial.now.rule.now states.now out.old out.new) }
 {
     for state in states {
-        push_state(alloc, setting, rule, plan, state, out)?;
+        push_state(trial, state, out)?;
     }
     Ok(())
 }
@@ -130,35 +122,34 @@ pub fn leading_instances(
     rows: &mut Rows,
     rule: &Rule,
     plan: &Plan,
-    known: &[(u16, Value)],
-    place: u16,
-    list: &Access,
+    start: &Start<'_>,
 ) -> Result<List<List<(u8, Value)>>, Memory>
     requires plans { choosing.ArePlans setting.now plans.now }
     requires rows { tables.AreRows setting.now tables.no_asks rows.old }
     requires plan { choosing.IsPlan setting.now rule.now plan.now }
     ensures rows { OnOk result (tables.AreRows setting.now tables.no_asks rows.new) }
-    ensures instances { IfOk result (finding.HasInstances setting.now rule.now known.now (record { place = place; list = list.now })) }
+    ensures instances { IfOk result (finding.HasInstances setting.now rule.now start.now.known.now
+        (record { place = start.now.place; list = start.now.list.now })) }
 {
-    if !may_start(setting, place, rule.body.as_slice()) {
+    if !may_start(setting, start.place, rule.body.as_slice()) {
         return Ok(List::new(alloc));
     }
+    let starts = start_states(alloc, start, rule.head.feats.as_slice())?;
     let made = Cell::new(0usize);
     let aim = nothing(&made);
-    let starts = start_states(alloc, known, rule.head.feats.as_slice(), place, list)?;
-    let mut cuts = List::new(alloc);
-    let states = last_states(
-        alloc, setting, &aim, plans, rows, DEEPEST, rule, plan, starts, &mut cuts,
-    )?;
-    let mut instances = List::new(alloc);
-    push_states(
+    let trial = Trial {
         alloc,
         setting,
+        aim: &aim,
+        plans,
+        depth: DEEPEST,
         rule,
         plan,
-        states.as_slice(),
-        &mut instances,
-    )?;
+    };
+    let mut cuts = List::new(alloc);
+    let states = last_states(&trial, rows, starts, &mut cuts)?;
+    let mut instances = List::new(alloc);
+    push_states(&trial, states.as_slice(), &mut instances)?;
     Ok(instances)
 }
 

@@ -14,6 +14,7 @@ ghost use Rattle.chart_table.specs.Table as tables;
 use crate::asks::Ask;
 use crate::choices::{Plan, plans_of};
 use crate::rows::Rows;
+use crate::scene::Scene;
 use crate::states::{Aim, Cut, End};
 use crate::table::{Row, row_of, token_count};
 use codeco_checked::{CheckedGrammar, FIRST_PLAIN};
@@ -127,18 +128,14 @@ fn text_row(
     let mut rows = Rows::new(alloc);
     let known = List::new(alloc);
     let list = Access::empty(alloc);
-    let number = row_of(
+    let scene = Scene {
         alloc,
         setting,
         aim,
         plans,
-        &mut rows,
-        DEEPEST,
-        FIRST_PLAIN,
-        known,
-        0,
-        list,
-    )?;
+        depth: DEEPEST,
+    };
+    let number = row_of(&scene, &mut rows, FIRST_PLAIN, known, 0, list)?;
     Ok(rows.remove(number))
 }
 

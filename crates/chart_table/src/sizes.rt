@@ -2,6 +2,7 @@
 use crate::asks::Ask;
 use crate::choices::plans_of;
 use crate::rows::Rows;
+use crate::scene::Scene;
 use crate::sentences::DEEPEST;
 use crate::states::Aim;
 use crate::table::{Row, row_of};
@@ -40,18 +41,14 @@ pub fn table_size(
     let mut rows = Rows::new(alloc);
     let known = List::new(alloc);
     let list = Access::empty(alloc);
-    row_of(
+    let scene = Scene {
         alloc,
         setting,
-        &aim,
-        plans.as_slice(),
-        &mut rows,
-        DEEPEST,
-        FIRST_PLAIN,
-        known,
-        0,
-        list,
-    )?;
+        aim: &aim,
+        plans: plans.as_slice(),
+        depth: DEEPEST,
+    };
+    row_of(&scene, &mut rows, FIRST_PLAIN, known, 0, list)?;
     Ok(size_of(rows.as_slice(), made.get()))
 }
 

@@ -19,6 +19,7 @@ ghost use Rattle.scopes.specs.declared.entries.Entry.TheVariants as entry;
 
 use crate::branches::{all_know, alone, choose, copy_bound, have, meet, read_as, restrict};
 use crate::choices::{Plan, choices};
+use crate::scene::{Step, Trial};
 use crate::states::{Bound, End, Feat, State};
 use codeco_terms::{Category, Element, Ground, Pattern, Term, Vals, Value};
 use derivation_trees::{Setting, term_value, tests_under, written};
@@ -259,23 +260,21 @@ fn push_introduced(
 
 // `>` and `>>` introduce a referent at the place. The features are those of its category.
 fn introduce(
-    alloc: Global,
-    setting: &Setting<'_>,
-    plan: &Plan,
-    number: u16,
-    features: &[u16],
+    trial: &Trial<'_>,
+    step: &Step<'_>,
     category: &Category,
     strong: bool,
     state: &State,
     out: &mut List<State>,
 ) -> Result<(), Memory>
-    requires { features.now ≡ instances.features_of setting.now.grammar category.now.name }
-    ensures { OnOk result (out.new ≡ out.old
-        ++ steps.introducing setting.now (choosing.choices setting.now plan.now.terms plan.now.places plan.now.own) number category.now strong state.now) }
+    requires { step.now.features.now ≡ instances.features_of trial.now.setting.now.grammar category.now.name }
+    ensures { OnOk result (let setting = trial.now.setting.now in let plan = trial.now.plan.now in out.new ≡ out.old
+        ++ steps.introducing setting (choosing.choices setting plan.terms plan.places plan.own) step.now.number category.now strong state.now) }
 {
-    let feats = complete(alloc, category.feats.as_slice(), features, number)?;
+    let Trial { alloc, setting, .. } = *trial;
+    let feats = complete(alloc, category.feats.as_slice(), step.features, step.number)?;
     let one = alone(alloc, state.binds.as_slice())?;
-    let bounds = close(alloc, setting, plan, feats.as_slice(), one)?;
+    let bounds = close(alloc, setting, trial.plan, feats.as_slice(), one)?;
     push_introduced(
         alloc,
         category.name,
@@ -561,35 +560,25 @@ fn push_no_back(
 
 // Adds the states after an element that is no category.
 pub(crate) fn push_plain(
-    alloc: Global,
-    setting: &Setting<'_>,
-    plan: &Plan,
-    number: u16,
-    features: &[u16],
-    element: &Element,
+    trial: &Trial<'_>,
+    step: &Step<'_>,
     state: &State,
     out: &mut List<State>,
 ) -> Result<(), Memory>
-    requires { features.now ≡ listing.element_features setting.now.grammar element.now }
-    ensures { OnOk result (out.new ≡ out.old
-        ++ steps.plain_steps setting.now (choosing.choices setting.now plan.now.terms plan.now.places plan.now.own) number element.now state.now) }
+    requires { step.now.features.now ≡ listing.element_features trial.now.setting.now.grammar step.now.element.now }
+    ensures { OnOk result (let setting = trial.now.setting.now in let plan = trial.now.plan.now in out.new ≡ out.old
+        ++ steps.plain_steps setting (choosing.choices setting plan.terms plan.places plan.own) step.now.number step.now.element.now state.now) }
 {
-    match element {
+    let Trial { alloc, setting, .. } = *trial;
+    let plan = trial.plan;
+    match step.element {
         Element::Terminal(terminal) => push_terminal(alloc, setting, *terminal, state, out),
         Element::Preterminal(category) => push_preterminal(alloc, setting, category, state, out),
         Element::Sub(_) => Ok(()),
         Element::Position(variable) => push_position(alloc, *variable, state, out),
         Element::Opener => push_opened(alloc, state, out),
-        Element::Forward(category) => {
-            introduce(
-                alloc, setting, plan, number, features, category, false, state, out,
-            )
-        }
-        Element::Strong(category) => {
-            introduce(
-                alloc, setting, plan, number, features, category, true, state, out,
-            )
-        }
+        Element::Forward(category) => introduce(trial, step, category, false, state, out),
+        Element::Strong(category) => introduce(trial, step, category, true, state, out),
         Element::Back(positive, negative) => push_back(
             alloc,
             setting,

@@ -19,15 +19,16 @@ ghost use Rattle.chart_table.specs.declared.states.State.{State as OneState};
 ghost use Rattle.chart_table.specs.declared.table.Row.{Row as OneRow};
 
 use crate::branches::{known_features, meet};
-use crate::choices::{Plan, count_at, features_at, plan_for};
+use crate::choices::{count_at, features_at, plan_for};
 use crate::cuts::{push_cuts_here, push_cuts_within};
 use crate::ends::{are_bound, finished, finished_one};
 use crate::merging::merged;
 use crate::rows::Rows;
 use crate::sameness::{copy_values, same_end, same_values};
+use crate::scene::{Scene, Start, Step, Trial};
 use crate::states::{Aim, Bound, Cut, End, Feat, State};
 use crate::steps::{push_ends, push_plain};
-use codeco_terms::{Category, Element, Rule, Value};
+use codeco_terms::{Category, Element, Value};
 use derivation_trees::{Setting, may_start};
 use lists::List;
 use scopes::{Access, Entry, TestValues};
@@ -127,19 +128,16 @@ fn push_all_new(alloc: Global, ends: &[End], out: &mut List<End>) -> Result<(), 
 
 // Adds the ends of phrases of the rule that stand in these states after the last element.
 fn push_finished(
-    alloc: Global,
-    setting: &Setting<'_>,
-    rule: &Rule,
-    plan: &Plan,
+    trial: &Trial<'_>,
     before: &Access,
     states: &[State],
     out: &mut List<End>,
 ) -> Result<(), Memory>
-    requires { choosing.IsPlan setting.now rule.now plan.now }
-    ensures { OnOk result (ending.HasFinished setting.now rule.now before.now states.now out.old out.new) }
+    requires { choosing.IsPlan trial.now.setting.now trial.now.rule.now trial.now.plan.now }
+    ensures { OnOk result (ending.HasFinished trial.now.setting.now trial.now.rule.now before.now states.now out.old out.new) }
 {
     for state in states {
-        push_state_ends(alloc, setting, rule, plan, before, state, out)?;
+        push_state_ends(trial, before, state, out)?;
     }
     Ok(())
 }
@@ -156,23 +154,21 @@ fn push_some_new(end: Option<End>, out: &mut List<End>) -> Result<(), Memory>
 
 // Adds the ends of phrases of the rule that stand in this state after the last element.
 fn push_state_ends(
-    alloc: Global,
-    setting: &Setting<'_>,
-    rule: &Rule,
-    plan: &Plan,
+    trial: &Trial<'_>,
     before: &Access,
     state: &State,
     out: &mut List<End>,
 ) -> Result<(), Memory>
-    requires { choosing.IsPlan setting.now rule.now plan.now }
-    ensures { OnOk result (ending.HasMore out.old out.new (ending.finished setting.now rule.now before.now state.now)) }
+    requires { choosing.IsPlan trial.now.setting.now trial.now.rule.now trial.now.plan.now }
+    ensures { OnOk result (ending.HasMore out.old out.new (ending.finished trial.now.setting.now trial.now.rule.now before.now state.now)) }
 {
+    let Trial { alloc, setting, .. } = *trial;
     let bound = state.binds.as_slice();
-    if are_bound(bound, plan.variables.as_slice()) {
-        let end = finished_one(alloc, setting, rule, plan, before, state, bound)?;
+    if are_bound(bound, trial.plan.variables.as_slice()) {
+        let end = finished_one(alloc, setting, trial.rule, trial.plan, before, state, bound)?;
         return push_some_new(end, out);
     }
-    let ends = finished(alloc, setting, rule, plan, before, state)?;
+    let ends = finished(alloc, setting, trial.rule, trial.plan, before, state)?;
     push_all_new(alloc, ends.as_slice(), out)
 }
 
@@ -188,20 +184,22 @@ fn add_count(number: u16, count: usize) -> Result<u16, Memory>
 // The states at the start of a rule.
 pub(crate) fn start_states(
     alloc: Global,
-    known: &[(u16, Value)],
+    start: &Start<'_>,
     feats: &[Feat],
-    place: u16,
-    list: &Access,
 ) -> Result<List<State>, Memory>
-    ensures { IfOk result (λ states. states ≡ steps.starting known.now feats.now place list.now) }
+    ensures { IfOk result (λ states. states ≡ steps.starting start.now.known.now feats.now start.now.place start.now.list.now) }
 {
     let mut states = List::new(alloc);
     let mut binds: Bound = List::new(alloc);
-    if !meet(&mut binds, known, feats)? {
+    if !meet(&mut binds, start.known, feats)? {
         return Ok(states);
     }
-    let list = list.share()?;
-    states.push(State { binds, place, list })?;
+    let list = start.list.share()?;
+    states.push(State {
+        binds,
+        place: start.place,
+        list,
+    })?;
     Ok(states)
 }
 
@@ -215,21 +213,18 @@ pub(crate) fn token_count(setting: &Setting<'_>) -> usize
 // The number of the row of the category, which is made where it isn't there yet.
 #[cycle(ends)]
 pub(crate) fn row_of(
-    alloc: Global,
-    setting: &Setting<'_>,
-    aim: &Aim<'_>,
-    plans: &[Plan],
+    scene: &Scene<'_>,
     rows: &mut Rows,
-    depth: u32,
     name: u16,
     known: List<(u16, Value)>,
     place: u16,
     list: Access,
 ) -> Result<usize, Memory>
-    requires rows { tables.AreRows setting.now aim.now rows.old }
-    requires plans { choosing.ArePlans setting.now plans.now }
-    ensures rows { OnOk result (tables.AreRows setting.now aim.now rows.new) }
-    ensures row { IfOk result (λ number. tables.HasRow setting.now aim.now rows.new number name known (record { place = place; list = list })) }
+    requires rows { tables.AreRows scene.now.setting.now scene.now.aim.now rows.old }
+    requires plans { choosing.ArePlans scene.now.setting.now scene.now.plans.now }
+    ensures rows { OnOk result (tables.AreRows scene.now.setting.now scene.now.aim.now rows.new) }
+    ensures row { IfOk result (λ number. tables.HasRow scene.now.setting.now scene.now.aim.now rows.new number name known
+        (record { place = place; list = list })) }
 {
     if let Some(number) = find(
         rows.as_slice(),
@@ -241,20 +236,13 @@ pub(crate) fn row_of(
     ) {
         return Ok(number);
     }
-    let mut cuts = List::new(alloc);
-    let ends = category_ends(
-        alloc,
-        setting,
-        aim,
-        plans,
-        rows,
-        depth,
-        name,
-        known.as_slice(),
+    let mut cuts = List::new(scene.alloc);
+    let start = Start {
+        known: known.as_slice(),
         place,
-        &list,
-        &mut cuts,
-    )?;
+        list: &list,
+    };
+    let ends = category_ends(scene, rows, name, &start, &mut cuts)?;
     let row = Row {
         name,
         known,
@@ -271,77 +259,72 @@ pub(crate) fn row_of(
 // The ends of the category, by all its rules. What is cut off is added, to a list that has been empty.
 #[cycle(ends)]
 fn category_ends(
-    alloc: Global,
-    setting: &Setting<'_>,
-    aim: &Aim<'_>,
-    plans: &[Plan],
+    scene: &Scene<'_>,
     rows: &mut Rows,
-    depth: u32,
     name: u16,
-    known: &[(u16, Value)],
-    place: u16,
-    start: &Access,
+    start: &Start<'_>,
     cuts: &mut List<Cut>,
 ) -> Result<List<End>, Memory>
-    requires rows { tables.AreRows setting.now aim.now rows.old }
-    requires plans { choosing.ArePlans setting.now plans.now }
+    requires rows { tables.AreRows scene.now.setting.now scene.now.aim.now rows.old }
+    requires plans { choosing.ArePlans scene.now.setting.now scene.now.plans.now }
     requires none { cuts.old ≡ [] }
-    ensures rows { OnOk result (tables.AreRows setting.now aim.now rows.new) }
-    ensures ends { IfOk result (λ ends. ending.IsEnds setting.now name known.now (record { place = place; list = start.now }) ends) }
-    ensures cuts { OnOk result (cutting.AreCuts setting.now aim.now name known.now (record { place = place; list = start.now }) cuts.new) }
+    ensures rows { OnOk result (tables.AreRows scene.now.setting.now scene.now.aim.now rows.new) }
+    ensures ends { IfOk result (λ ends. ending.IsEnds scene.now.setting.now name start.now.known.now
+        (record { place = start.now.place; list = start.now.list.now }) ends) }
+    ensures cuts { OnOk result (cutting.AreCuts scene.now.setting.now scene.now.aim.now name start.now.known.now
+        (record { place = start.now.place; list = start.now.list.now }) cuts.new) }
 {
+    let setting = scene.setting;
     let rules = setting.grammar.rules().as_slice();
-    let mut ends = List::new(alloc);
+    let mut ends = List::new(scene.alloc);
     for (number, rule) in rules.iter().enumerate() {
-        let plan = plan_for(plans, number);
-        push_named(
-            alloc, setting, aim, plans, rows, depth, name, rule, plan, known, place, start,
-            &mut ends, cuts,
-        )?;
+        let plan = plan_for(scene.plans, number);
+        let trial = Trial {
+            alloc: scene.alloc,
+            setting,
+            aim: scene.aim,
+            plans: scene.plans,
+            depth: scene.depth,
+            rule,
+            plan,
+        };
+        push_named(&trial, rows, name, start, &mut ends, cuts)?;
     }
     Ok(ends)
 }
 
 // Whether phrases are cut off at the place, or the rule's first element that takes tokens may stand there.
-fn may_go(setting: &Setting<'_>, aim: &Aim<'_>, rule: &Rule, place: u16) -> bool
-    ensures { result ≡ false → cutting.IsIdle setting.now aim.now rule.now place }
+fn may_go(trial: &Trial<'_>, place: u16) -> bool
+    ensures { result ≡ false → cutting.IsIdle trial.now.setting.now trial.now.aim.now trial.now.rule.now place }
 {
+    let aim = trial.aim;
     if place as usize == aim.halt {
         return true;
     }
-    may_start(setting, place, rule.body.as_slice())
+    may_start(trial.setting, place, trial.rule.body.as_slice())
 }
 
 // Adds the ends of the rule and what is cut off, if it has the name.
 #[cycle(ends)]
 fn push_named(
-    alloc: Global,
-    setting: &Setting<'_>,
-    aim: &Aim<'_>,
-    plans: &[Plan],
+    trial: &Trial<'_>,
     rows: &mut Rows,
-    depth: u32,
     name: u16,
-    rule: &Rule,
-    plan: &Plan,
-    known: &[(u16, Value)],
-    place: u16,
-    start: &Access,
+    start: &Start<'_>,
     ends: &mut List<End>,
     cuts: &mut List<Cut>,
 ) -> Result<(), Memory>
-    requires rows { tables.AreRows setting.now aim.now rows.old }
-    requires plans { choosing.ArePlans setting.now plans.now }
-    requires plan { choosing.IsPlan setting.now rule.now plan.now }
-    ensures rows { OnOk result (tables.AreRows setting.now aim.now rows.new) }
-    ensures ends { OnOk result (ending.HasEndsIfNamed setting.now rule.now name known.now (record { place = place; list = start.now }) ends.old ends.new) }
-    ensures cuts { OnOk result (cutting.HasCutsIfNamed setting.now aim.now rule.now name known.now (record { place = place; list = start.now }) cuts.old
-        cuts.new) }
+    requires rows { tables.AreRows trial.now.setting.now trial.now.aim.now rows.old }
+    requires plans { choosing.ArePlans trial.now.setting.now trial.now.plans.now }
+    requires plan { choosing.IsPlan trial.now.setting.now trial.now.rule.now trial.now.plan.now }
+    ensures rows { OnOk result (tables.AreRows trial.now.setting.now trial.now.aim.now rows.new) }
+    ensures ends { OnOk result (ending.HasEndsIfNamed trial.now.setting.now trial.now.rule.now name start.now.known.now
+        (record { place = start.now.place; list = start.now.list.now }) ends.old ends.new) }
+    ensures cuts { OnOk result (cutting.HasCutsIfNamed trial.now.setting.now trial.now.aim.now trial.now.rule.now name start.now.known.now
+        (record { place = start.now.place; list = start.now.list.now }) cuts.old cuts.new) }
 {
-    if rule.head.name == name {
-        push_rule(
-            alloc, setting, aim, plans, rows, depth, rule, plan, known, place, start, ends, cuts,
-        )?;
+    if trial.rule.head.name == name {
+        push_rule(trial, rows, start, ends, cuts)?;
         return Ok(());
     }
     Ok(())
@@ -350,45 +333,29 @@ fn push_named(
 // Adds the ends of the rule and what is cut off.
 #[cycle(ends)]
 fn push_rule(
-    alloc: Global,
-    setting: &Setting<'_>,
-    aim: &Aim<'_>,
-    plans: &[Plan],
+    trial: &Trial<'_>,
     rows: &mut Rows,
-    depth: u32,
-    rule: &Rule,
-    plan: &Plan,
-    known: &[(u16, Value)],
-    place: u16,
-    start: &Access,
+    start: &Start<'_>,
     ends: &mut List<End>,
     cuts: &mut List<Cut>,
 ) -> Result<(), Memory>
-    requires rows { tables.AreRows setting.now aim.now rows.old }
-    requires plans { choosing.ArePlans setting.now plans.now }
-    requires plan { choosing.IsPlan setting.now rule.now plan.now }
-    ensures rows { OnOk result (tables.AreRows setting.now aim.now rows.new) }
-    ensures ends { OnOk result (ending.HasEndsOfRule setting.now rule.now known.now (record { place = place; list = start.now }) ends.old ends.new) }
-    ensures cuts { OnOk result (cutting.HasCutsOfRule setting.now aim.now rule.now known.now (record { place = place; list = start.now }) cuts.old cuts.new) }
+    requires rows { tables.AreRows trial.now.setting.now trial.now.aim.now rows.old }
+    requires plans { choosing.ArePlans trial.now.setting.now trial.now.plans.now }
+    requires plan { choosing.IsPlan trial.now.setting.now trial.now.rule.now trial.now.plan.now }
+    ensures rows { OnOk result (tables.AreRows trial.now.setting.now trial.now.aim.now rows.new) }
+    ensures ends { OnOk result (ending.HasEndsOfRule trial.now.setting.now trial.now.rule.now start.now.known.now
+        (record { place = start.now.place; list = start.now.list.now }) ends.old ends.new) }
+    ensures cuts { OnOk result (cutting.HasCutsOfRule trial.now.setting.now trial.now.aim.now trial.now.rule.now start.now.known.now
+        (record { place = start.now.place; list = start.now.list.now }) cuts.old cuts.new) }
 {
-    if !may_go(setting, aim, rule, place) {
+    if !may_go(trial, start.place) {
         return Ok(());
     }
-    let starts = start_states(alloc, known, rule.head.feats.as_slice(), place, start)?;
-    let states = last_states(
-        alloc, setting, aim, plans, rows, depth, rule, plan, starts, cuts,
-    )?;
-    push_cuts_here(
-        alloc,
-        setting,
-        aim,
-        rule,
-        plan,
-        None,
-        states.as_slice(),
-        cuts,
-    )?;
-    push_finished(alloc, setting, rule, plan, start, states.as_slice(), ends)?;
+    let alloc = trial.alloc;
+    let starts = start_states(alloc, start, trial.rule.head.feats.as_slice())?;
+    let states = last_states(trial, rows, starts, cuts)?;
+    push_cuts_here(trial, None, states.as_slice(), cuts)?;
+    push_finished(trial, start.list, states.as_slice(), ends)?;
     Ok(())
 }
 
@@ -400,58 +367,35 @@ fn count(aim: &Aim<'_>, states: usize) {
 // The states after the last element. What is cut off before is added.
 #[cycle(ends)]
 pub(crate) fn last_states(
-    alloc: Global,
-    setting: &Setting<'_>,
-    aim: &Aim<'_>,
-    plans: &[Plan],
+    trial: &Trial<'_>,
     rows: &mut Rows,
-    depth: u32,
-    rule: &Rule,
-    plan: &Plan,
     starts: List<State>,
     cuts: &mut List<Cut>,
 ) -> Result<List<State>, Memory>
-    requires rows { tables.AreRows setting.now aim.now rows.old }
-    requires plans { choosing.ArePlans setting.now plans.now }
-    requires plan { choosing.IsPlan setting.now rule.now plan.now }
-    ensures rows { OnOk result (tables.AreRows setting.now aim.now rows.new) }
-    ensures last { IfOk result (λ states. cutting.AreAllAfter setting.now rule.now starts states) }
-    ensures cuts { OnOk result (cutting.HasHeads setting.now rule.now (cutting.CutBefore setting.now aim.now rule.now starts (length rule.now.body)) cuts.old
-        cuts.new) }
+    requires rows { tables.AreRows trial.now.setting.now trial.now.aim.now rows.old }
+    requires plans { choosing.ArePlans trial.now.setting.now trial.now.plans.now }
+    requires plan { choosing.IsPlan trial.now.setting.now trial.now.rule.now trial.now.plan.now }
+    ensures rows { OnOk result (tables.AreRows trial.now.setting.now trial.now.aim.now rows.new) }
+    ensures last { IfOk result (λ states. cutting.AreAllAfter trial.now.setting.now trial.now.rule.now starts states) }
+    ensures cuts { OnOk result (cutting.HasHeads trial.now.setting.now trial.now.rule.now
+        (cutting.CutBefore trial.now.setting.now trial.now.aim.now trial.now.rule.now starts (length trial.now.rule.now.body)) cuts.old cuts.new) }
 {
+    let aim = trial.aim;
     count(aim, starts.len());
-    let body = rule.body.as_slice();
+    let body = trial.rule.body.as_slice();
     let mut states = starts;
     let mut number: u16 = 16;
     for (place, element) in body.iter().enumerate() {
-        push_cuts_here(
-            alloc,
-            setting,
-            aim,
-            rule,
-            plan,
-            Some(element),
-            states.as_slice(),
-            cuts,
-        )?;
-        let features = features_at(plan, place);
-        states = next_states(
-            alloc,
-            setting,
-            aim,
-            plans,
-            rows,
-            depth,
-            rule,
-            plan,
+        push_cuts_here(trial, Some(element), states.as_slice(), cuts)?;
+        let features = features_at(trial.plan, place);
+        let step = Step {
             number,
             features,
             element,
-            states.as_slice(),
-            cuts,
-        )?;
+        };
+        states = next_states(trial, rows, &step, states.as_slice(), cuts)?;
         count(aim, states.len());
-        number = add_count(number, count_at(plan, place))?;
+        number = add_count(number, count_at(trial.plan, place))?;
     }
     Ok(states)
 }
@@ -459,76 +403,56 @@ pub(crate) fn last_states(
 // The states after an element. What is cut off within it is added.
 #[cycle(ends)]
 fn next_states(
-    alloc: Global,
-    setting: &Setting<'_>,
-    aim: &Aim<'_>,
-    plans: &[Plan],
+    trial: &Trial<'_>,
     rows: &mut Rows,
-    depth: u32,
-    rule: &Rule,
-    plan: &Plan,
-    number: u16,
-    features: &[u16],
-    element: &Element,
+    step: &Step<'_>,
     states: &[State],
     cuts: &mut List<Cut>,
 ) -> Result<List<State>, Memory>
-    requires rows { tables.AreRows setting.now aim.now rows.old }
-    requires plans { choosing.ArePlans setting.now plans.now }
-    requires plan { choosing.IsPlan setting.now rule.now plan.now }
-    requires features { features.now ≡ listing.element_features setting.now.grammar element.now }
-    ensures rows { OnOk result (tables.AreRows setting.now aim.now rows.new) }
-    ensures steps { IfOk result (λ news. ending.AreSteps setting.now rule.now number element.now states.now news) }
-    ensures cuts { OnOk result (cutting.HasHeads setting.now rule.now (λ j v. cutting.Among (cutting.Enters setting.now aim.now element.now j v) states.now)
-        cuts.old cuts.new) }
+    requires rows { tables.AreRows trial.now.setting.now trial.now.aim.now rows.old }
+    requires plans { choosing.ArePlans trial.now.setting.now trial.now.plans.now }
+    requires plan { choosing.IsPlan trial.now.setting.now trial.now.rule.now trial.now.plan.now }
+    requires features { step.now.features.now ≡ listing.element_features trial.now.setting.now.grammar step.now.element.now }
+    ensures rows { OnOk result (tables.AreRows trial.now.setting.now trial.now.aim.now rows.new) }
+    ensures steps { IfOk result (λ news. ending.AreSteps trial.now.setting.now trial.now.rule.now step.now.number step.now.element.now states.now news) }
+    ensures cuts { OnOk result (cutting.HasHeads trial.now.setting.now trial.now.rule.now
+        (λ j v. cutting.Among (cutting.Enters trial.now.setting.now trial.now.aim.now step.now.element.now j v) states.now) cuts.old cuts.new) }
 {
-    let mut news = List::new(alloc);
+    let mut news = List::new(trial.alloc);
     for state in states {
-        push_state(
-            alloc, setting, aim, plans, rows, depth, rule, plan, number, features, element, state,
-            &mut news, cuts,
-        )?;
+        push_state(trial, rows, step, state, &mut news, cuts)?;
     }
-    let news = merged(alloc, news)?;
+    let news = merged(trial.alloc, news)?;
     Ok(news)
 }
 
 // Adds the states after an element from one state, and what is cut off within it.
 #[cycle(ends)]
 fn push_state(
-    alloc: Global,
-    setting: &Setting<'_>,
-    aim: &Aim<'_>,
-    plans: &[Plan],
+    trial: &Trial<'_>,
     rows: &mut Rows,
-    depth: u32,
-    rule: &Rule,
-    plan: &Plan,
-    number: u16,
-    features: &[u16],
-    element: &Element,
+    step: &Step<'_>,
     state: &State,
     out: &mut List<State>,
     cuts: &mut List<Cut>,
 ) -> Result<(), Memory>
-    requires rows { tables.AreRows setting.now aim.now rows.old }
-    requires plans { choosing.ArePlans setting.now plans.now }
-    requires plan { choosing.IsPlan setting.now rule.now plan.now }
-    requires features { features.now ≡ listing.element_features setting.now.grammar element.now }
-    ensures rows { OnOk result (tables.AreRows setting.now aim.now rows.new) }
-    ensures step { OnOk result ((news : List OneState) × (out.new ≡ out.old ++ news) × ending.IsStep setting.now rule.now number element.now state.now news) }
-    ensures cuts { OnOk result (cutting.HasHeads setting.now rule.now (λ j v. cutting.Enters setting.now aim.now element.now j v state.now) cuts.old cuts.new) }
+    requires rows { tables.AreRows trial.now.setting.now trial.now.aim.now rows.old }
+    requires plans { choosing.ArePlans trial.now.setting.now trial.now.plans.now }
+    requires plan { choosing.IsPlan trial.now.setting.now trial.now.rule.now trial.now.plan.now }
+    requires features { step.now.features.now ≡ listing.element_features trial.now.setting.now.grammar step.now.element.now }
+    ensures rows { OnOk result (tables.AreRows trial.now.setting.now trial.now.aim.now rows.new) }
+    ensures step { OnOk result ((news : List OneState) × (out.new ≡ out.old ++ news)
+        × ending.IsStep trial.now.setting.now trial.now.rule.now step.now.number step.now.element.now state.now news) }
+    ensures cuts { OnOk result (cutting.HasHeads trial.now.setting.now trial.now.rule.now
+        (λ j v. cutting.Enters trial.now.setting.now trial.now.aim.now step.now.element.now j v state.now) cuts.old cuts.new) }
 {
-    match element {
+    match step.element {
         Element::Sub(category) => {
-            push_category(
-                alloc, setting, aim, plans, rows, depth, rule, plan, number, category, state, out,
-                cuts,
-            )?;
+            push_category(trial, rows, step.number, category, state, out, cuts)?;
             Ok(())
         }
         _ => {
-            push_plain(alloc, setting, plan, number, features, element, state, out)?;
+            push_plain(trial, step, state, out)?;
             Ok(())
         }
     }
@@ -538,56 +462,36 @@ fn push_state(
 // are, which the grammar bounds.
 #[cycle(ends)]
 fn push_category(
-    alloc: Global,
-    setting: &Setting<'_>,
-    aim: &Aim<'_>,
-    plans: &[Plan],
+    trial: &Trial<'_>,
     rows: &mut Rows,
-    depth: u32,
-    rule: &Rule,
-    plan: &Plan,
     number: u16,
     category: &Category,
     state: &State,
     out: &mut List<State>,
     cuts: &mut List<Cut>,
 ) -> Result<(), Memory>
-    requires rows { tables.AreRows setting.now aim.now rows.old }
-    requires plans { choosing.ArePlans setting.now plans.now }
-    requires plan { choosing.IsPlan setting.now rule.now plan.now }
-    ensures rows { OnOk result (tables.AreRows setting.now aim.now rows.new) }
+    requires rows { tables.AreRows trial.now.setting.now trial.now.aim.now rows.old }
+    requires plans { choosing.ArePlans trial.now.setting.now trial.now.plans.now }
+    requires plan { choosing.IsPlan trial.now.setting.now trial.now.rule.now trial.now.plan.now }
+    ensures rows { OnOk result (tables.AreRows trial.now.setting.now trial.now.aim.now rows.new) }
     ensures step { OnOk result ((news : List OneState) × (out.new ≡ out.old ++ news)
-        × ending.IsStep setting.now rule.now number (Sub category.now) state.now news) }
-    ensures cuts { OnOk result (cutting.HasHeads setting.now rule.now (λ j v. cutting.Enters setting.now aim.now (Sub category.now) j v state.now) cuts.old
-        cuts.new) }
+        × ending.IsStep trial.now.setting.now trial.now.rule.now number (Sub category.now) state.now news) }
+    ensures cuts { OnOk result (cutting.HasHeads trial.now.setting.now trial.now.rule.now
+        (λ j v. cutting.Enters trial.now.setting.now trial.now.aim.now (Sub category.now) j v state.now) cuts.old cuts.new) }
 {
-    let deeper = depth.checked_sub(1).ok_or(Memory)?;
+    let alloc = trial.alloc;
+    let deeper = Scene {
+        alloc,
+        setting: trial.setting,
+        aim: trial.aim,
+        plans: trial.plans,
+        depth: trial.depth.checked_sub(1).ok_or(Memory)?,
+    };
     let known = known_features(alloc, state.binds.as_slice(), category.feats.as_slice())?;
     let list = state.list.referents()?;
-    let row = row_of(
-        alloc,
-        setting,
-        aim,
-        plans,
-        rows,
-        deeper,
-        category.name,
-        known,
-        state.place,
-        list,
-    )?;
+    let row = row_of(&deeper, rows, category.name, known, state.place, list)?;
     push_row(alloc, category, state, rows.as_slice(), row, out)?;
-    push_row_cuts(
-        alloc,
-        setting,
-        rule,
-        plan,
-        category,
-        state,
-        rows.as_slice(),
-        row,
-        cuts,
-    )?;
+    push_row_cuts(trial, category, state, rows.as_slice(), row, cuts)?;
     Ok(())
 }
 
@@ -608,10 +512,7 @@ fn push_row(
 
 // Adds what is cut off within a category, by a row.
 fn push_row_cuts(
-    alloc: Global,
-    setting: &Setting<'_>,
-    rule: &Rule,
-    plan: &Plan,
+    trial: &Trial<'_>,
     category: &Category,
     state: &State,
     rows: &[Row],
@@ -619,15 +520,12 @@ fn push_row_cuts(
     cuts: &mut List<Cut>,
 ) -> Result<(), Memory>
     requires number { number < length rows.now }
-    requires plan { choosing.IsPlan setting.now rule.now plan.now }
-    ensures { OnOk result ((row : OneRow) → slice_get rows.now number ≡ Some row → cutting.HasHeads setting.now rule.now
+    requires plan { choosing.IsPlan trial.now.setting.now trial.now.rule.now trial.now.plan.now }
+    ensures { OnOk result ((row : OneRow) → slice_get rows.now number ≡ Some row → cutting.HasHeads trial.now.setting.now trial.now.rule.now
         (cutting.OneBefore row.cuts (cutting.MeetsCut category.now state.now.binds) (length row.cuts)) cuts.old cuts.new) }
 {
     push_cuts_within(
-        alloc,
-        setting,
-        rule,
-        plan,
+        trial,
         category,
         state.binds.as_slice(),
         rows[number].cuts.as_slice(),

@@ -15,4 +15,5 @@ decreases-push_from l = 3 * length l.feats.now
 
 abbrev pub invariant-push_each-loop-value : goal.invariant-push_each-loop-value
 invariant-push_each-loop-value l =
-    HasHeads l.setting l.rule (IsOf l.number (filter_map (bound_term l.bound l.feat.1) (take l.value-index l.value-items))) l.fn.cuts l.cuts
+    HasHeads l.trial.setting.now l.trial.rule.now (IsOf l.number (filter_map (bound_term l.bound l.feat.1) (take l.value-index l.value-items))) l.fn.cuts
+    l.cuts

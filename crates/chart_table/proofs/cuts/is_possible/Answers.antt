@@ -6,8 +6,8 @@ use Rattle.chart_table.proofs.cuts.is_possible.Goals as goal
 
 pub returns-then-has_values : goal.returns-then-has_values
 returns-then-has_values c =
-    let s = c.args.setting.now in
-    let rule = c.args.rule.now in
+    let s = c.args.trial.now.setting.now in
+    let rule = c.args.trial.now.rule.now in
     let bound = c.args.bound.now in
     let is = c.is_instance.ensures ∙ ap (is_instance s rule) c.as_slice.ensures in
     let has = c.has_values.ensures ∙ ap (λ g. has_values g bound) c.as_slice-then-is_instance.ensures in

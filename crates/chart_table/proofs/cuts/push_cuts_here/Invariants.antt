@@ -5,4 +5,5 @@ use Rattle.chart_table.proofs.cuts.push_cuts_here.Given as goal
 
 abbrev pub invariant-loop-state : goal.invariant-loop-state
 invariant-loop-state l =
-    HasHeads l.setting l.rule (λ j v. Among (Halts l.aim (option_map (λ e. e.now) l.next) j v) (take l.state-index l.states)) l.fn.cuts l.cuts
+    HasHeads l.trial.setting.now l.trial.rule.now
+    (λ j v. Among (Halts l.trial.aim.now (option_map (λ e. e.now) l.next) j v) (take l.state-index l.states)) l.fn.cuts l.cuts

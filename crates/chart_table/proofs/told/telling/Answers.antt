@@ -7,7 +7,7 @@ use Rattle.chart_table.proofs.told.telling.Goals as goal
 
 pub returns-clause-told : goal.returns-clause-told
 returns-clause-told c =
-    let P = IsTold c.args.setting.now c.args.rule.now c.args.category.now c.args.bound.now in
+    let P = IsTold c.args.trial.now.setting.now c.args.trial.now.rule.now c.args.category.now c.args.bound.now in
     subst (All P) (sym c.in_ok-number.ensures.told) (All-push P c.args.told.now c.in_ok-one.one c.requires.told c.in_ok-one.ensures.heads)
 
 pub returns-clause-number : goal.returns-clause-number

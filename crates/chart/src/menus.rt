@@ -11,7 +11,7 @@ ghost use Rattle.derivation_trees.specs.Partial.{IsBeginning};
 ghost use Rattle.chart_table.specs.Choices.{EachPlan};
 
 use crate::entries::{Entry, in_order, menu_of, put};
-use crate::offers::{add_known, add_new};
+use crate::offers::{Before, add_known, add_new};
 use crate::used::Used;
 use chart_table::{Plan, begins};
 use codeco_checked::CheckedGrammar;
@@ -212,17 +212,14 @@ fn menu_by_asking<'a>(
     let texts = terminal_texts(alloc, grammar)?;
     let used = Used::of(alloc, readings)?;
     let mut found = Vec::new(alloc);
-    add_known(
-        alloc,
+    let before = Before {
         grammar,
-        lexicon,
-        tokens,
-        &used,
         plans,
-        texts.as_slice(),
-        &mut found,
-    )?;
-    add_new(alloc, grammar, lexicon, tokens, &used, plans, &mut found)?;
+        tokens,
+        used: &used,
+    };
+    add_known(alloc, lexicon, &before, texts.as_slice(), &mut found)?;
+    add_new(alloc, lexicon, &before, &mut found)?;
     let entries = in_order(alloc, found)?;
     menu_of(alloc, entries.as_slice())
 }

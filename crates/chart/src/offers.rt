@@ -22,32 +22,42 @@ use lists::List;
 use std::alloc::Global;
 use wiki_base::{Copied, Memory, Token, Tokens};
 
+// The tokens that stand before the one that is asked for, with the words that have a form among them; and the grammar, with the
+// plans of its rules.
+#[derive(Clone, Copy)]
+pub(crate) struct Before<'a> {
+    pub(crate) grammar: &'a CheckedGrammar,
+    pub(crate) plans: &'a [Plan],
+    pub(crate) tokens: &'a Tokens,
+    pub(crate) used: &'a Used<'a>,
+}
+
 // What is told of the asks by the table of the tokens and one more, which has these readings.
 fn told_of(
     alloc: Global,
-    grammar: &CheckedGrammar,
     lexicon: &Lexicon,
-    tokens: &Tokens,
+    before: &Before<'_>,
     last: Readings,
-    plans: &[Plan],
     asks: &[Ask],
 ) -> Result<List<bool>, Memory>
-    requires few { length tokens.now ≤ MOST_TOKENS }
-    requires plans { EachPlan grammar.now grammar.now.rules plans.now }
+    requires few { length before.now.tokens.now ≤ MOST_TOKENS }
+    requires plans { EachPlan before.now.grammar.now before.now.grammar.now.rules before.now.plans.now }
     ensures { IfOk result (offers.Told
-        (offers.with_last grammar.now tokens.now (map (lexical.readings_of lexicon.now.live) tokens.now) (120 ∷ []) last)
-        (length tokens.now) asks.now) }
+        (offers.with_last before.now.grammar.now before.now.tokens.now
+        (map (lexical.readings_of lexicon.now.live) before.now.tokens.now) (120 ∷ []) last)
+        (length before.now.tokens.now) asks.now) }
 {
+    let tokens = before.tokens;
     let mut longer = tokens.copy()?;
     longer.push(Token::from_str(alloc, "x")?)?;
     let mut readings = List::from_vec(readings_of(alloc, lexicon, tokens.as_slice())?);
     readings.push(last)?;
     let setting = Setting {
-        grammar: grammar.grammar(),
+        grammar: before.grammar.grammar(),
         tokens: longer.as_slice(),
         readings: readings.as_slice(),
     };
-    may_follow(alloc, &setting, plans, tokens.len(), asks)
+    may_follow(alloc, &setting, before.plans, tokens.len(), asks)
 }
 
 // The asks for the terminals.
@@ -161,35 +171,24 @@ fn add_chosen<'a>(
 // Adds the terminals, and the forms of words among the tokens, that may follow.
 pub(crate) fn add_known<'a>(
     alloc: Global,
-    grammar: &CheckedGrammar,
     lexicon: &'a Lexicon,
-    tokens: &Tokens,
-    used: &Used<'_>,
-    plans: &[Plan],
+    before: &Before<'_>,
     texts: &[&'a str],
     found: &mut Vec<Entry<'a>>,
 ) -> Result<(), Memory>
-    requires few { length tokens.now ≤ MOST_TOKENS }
-    requires terminals { length grammar.now.terminals ≤ 65535 }
-    requires used { used.now ≡ map (lexical.readings_of lexicon.now.live) tokens.now }
-    requires plans { EachPlan grammar.now grammar.now.rules plans.now }
-    ensures { OnOk result (offers.KnownFound grammar.now lexicon.now.live tokens.now (texts_of texts.now)
+    requires few { length before.now.tokens.now ≤ MOST_TOKENS }
+    requires terminals { length before.now.grammar.now.terminals ≤ 65535 }
+    requires used { before.now.used.now ≡ map (lexical.readings_of lexicon.now.live) before.now.tokens.now }
+    requires plans { EachPlan before.now.grammar.now before.now.grammar.now.rules before.now.plans.now }
+    ensures { OnOk result (offers.KnownFound before.now.grammar.now lexicon.now.live before.now.tokens.now (texts_of texts.now)
         (map shown found.old.items) (map shown found.new.items)) }
 {
-    let terminals = grammar.grammar().terminals().as_slice();
+    let terminals = before.grammar.grammar().terminals().as_slice();
     let count = terminals.len();
     let mut asks = terminal_asks(alloc, terminals)?;
     let mut forms = Vec::new(alloc);
-    ask_used(lexicon, used, &mut forms, &mut asks)?;
-    let told = told_of(
-        alloc,
-        grammar,
-        lexicon,
-        tokens,
-        Readings::none(),
-        plans,
-        asks.as_slice(),
-    )?;
+    ask_used(lexicon, before.used, &mut forms, &mut asks)?;
+    let told = told_of(alloc, lexicon, before, Readings::none(), asks.as_slice())?;
     let (terminals_told, forms_told) = told.as_slice().split_at(count);
     add_terminals(texts, terminals, terminals_told, found)?;
     add_chosen(forms.as_slice(), forms_told, found)?;
@@ -248,35 +247,25 @@ fn add_words<'a>(
 // Adds the forms that may follow of words without a form among the tokens.
 pub(crate) fn add_new<'a>(
     alloc: Global,
-    grammar: &CheckedGrammar,
     lexicon: &'a Lexicon,
-    tokens: &Tokens,
-    used: &Used<'_>,
-    plans: &[Plan],
+    before: &Before<'_>,
     found: &mut Vec<Entry<'a>>,
 ) -> Result<(), Memory>
-    requires few { length tokens.now ≤ MOST_TOKENS }
-    requires used { used.now ≡ map (lexical.readings_of lexicon.now.live) tokens.now }
-    requires plans { EachPlan grammar.now grammar.now.rules plans.now }
+    requires few { length before.now.tokens.now ≤ MOST_TOKENS }
+    requires used { before.now.used.now ≡ map (lexical.readings_of lexicon.now.live) before.now.tokens.now }
+    requires plans { EachPlan before.now.grammar.now before.now.grammar.now.rules before.now.plans.now }
     ensures found { OnOk result (
-        offers.NoneNew lexicon.now.live tokens.now (map shown found.old.items) (map shown found.new.items)
-        ⊎ offers.NewFound grammar.now lexicon.now.live tokens.now (map shown found.old.items) (map shown found.new.items)) }
+        offers.NoneNew lexicon.now.live before.now.tokens.now (map shown found.old.items) (map shown found.new.items)
+        ⊎ offers.NewFound before.now.grammar.now lexicon.now.live before.now.tokens.now (map shown found.old.items) (map shown found.new.items)) }
     ensures lexicon { OnOk result (IsLexicon lexicon.now) }
 {
+    let used = before.used;
     let Some(place) = first_new(lexicon, used) else {
         return Ok(());
     };
     let word = lexicon.get(place);
     let form = word.forms.texts.get(0);
     let last = lexicon.readings(form.as_str());
-    let told = told_of(
-        alloc,
-        grammar,
-        lexicon,
-        tokens,
-        last,
-        plans,
-        &class_asks(word.id),
-    )?;
+    let told = told_of(alloc, lexicon, before, last, &class_asks(word.id))?;
     add_words(lexicon, used, told.as_slice(), found)
 }

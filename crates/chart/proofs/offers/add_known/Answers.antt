@@ -8,10 +8,10 @@ use Rattle.chart.proofs.offers.add_known.Goals as goal
 
 pub split_at-requires : goal.split_at-requires
 split_at-requires c =
-    let g = c.args.grammar.now in
-    let t = c.args.tokens.now in
+    let g = c.args.before.now.grammar.now in
+    let t = c.args.before.now.tokens.now in
     let live = c.args.lexicon.now.live in
-    let rs = c.args.used.now in
+    let rs = c.args.before.now.used.now in
     let ts = c.as_slice-terminals.result.now in
     let s = with_last g t (map (readings_of live) t) (120 ∷ []) c.none.result in
     let are_asks : c.as_slice.result.now ≡ terminal_asks 0 ts ++ used_asks rs live =
@@ -26,10 +26,10 @@ split_at-requires c =
 
 pub returns : goal.returns
 returns c =
-    let g = c.args.grammar.now in
-    let t = c.args.tokens.now in
+    let g = c.args.before.now.grammar.now in
+    let t = c.args.before.now.tokens.now in
     let live = c.args.lexicon.now.live in
-    let rs = c.args.used.now in
+    let rs = c.args.before.now.used.now in
     let texts = texts_of c.args.texts.now in
     let before = map shown c.args.found.now.items in
     let told = c.as_slice-2.result.now in

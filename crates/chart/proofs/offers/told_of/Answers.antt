@@ -11,8 +11,8 @@ use Rattle.chart.proofs.offers.told_of.Goals as goal
 
 pub returns : goal.returns
 returns c =
-    let g = c.args.grammar.now in
-    let t = c.args.tokens.now in
+    let g = c.args.before.now.grammar.now in
+    let t = c.args.before.now.tokens.now in
     let rs = map (readings_of c.args.lexicon.now.live) t in
     let asks = c.args.asks.now in
     let s : Setting = record { grammar = c.grammar.result.now; tokens = c.as_slice-2.result.now; readings = c.as_slice-3.result.now } in

@@ -6,6 +6,7 @@ mod codes;
 mod earliest;
 mod outcomes;
 mod paths;
+mod scene;
 mod skeletons;
 mod table;
 

@@ -11,6 +11,7 @@ ghost use Rattle.wiki_base.specs.declared.tokens.TheConstants.{MOST_TOKENS};
 ghost use Rattle.chart_trees.specs.Outcomes as ends;
 
 use crate::outcomes::Outcome;
+use crate::scene::Scene;
 use crate::table::{Tables, best_of};
 use chart_table::{Rows, plans_of};
 use codeco_checked::{CheckedGrammar, FIRST_PLAIN};
@@ -115,17 +116,14 @@ fn least_in(alloc: Global, setting: &Setting<'_>) -> Result<Option<Skeleton>, Me
         ends: Rows::new(alloc),
         rows: List::new(alloc),
     };
-    let list = Access::empty(alloc);
-    let number = best_of(
+    let scene = Scene {
         alloc,
-        setting,
-        plans.as_slice(),
-        &mut tables,
-        DEEPEST,
-        text(alloc),
-        0,
-        list,
-    )?;
+        setting: &*setting,
+        plans: plans.as_slice(),
+        depth: DEEPEST,
+    };
+    let list = Access::empty(alloc);
+    let number = best_of(&scene, &mut tables, text(alloc), 0, list)?;
     let row = tables.rows.get(number);
     least_among(alloc, setting, row.outcomes.as_slice())
 }

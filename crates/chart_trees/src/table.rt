@@ -9,7 +9,7 @@ ghost use Rattle.chart_table.specs.Choices.{ArePlans, IsPlan};
 ghost use Rattle.chart_table.specs.Table.{AreRows, no_asks};
 ghost use Rattle.chart_table.specs.Instances.{HasInstances};
 ghost use Rattle.chart_trees.specs.declared.table.Best.{Best as OneBest};
-ghost use Rattle.chart_trees.specs.Paths.{path_of, outcome_at};
+ghost use Rattle.chart_trees.specs.Paths.{path_of, outcome_at, start_of};
 ghost use Rattle.chart_trees.specs.Ways as ways;
 ghost use Rattle.chart_trees.specs.Outcomes as ends;
 ghost use Rattle.chart_trees.specs.Tables as tabled;
@@ -17,7 +17,8 @@ ghost use Rattle.chart_trees.specs.Tables as tabled;
 use crate::earliest::earliest;
 use crate::outcomes::{Outcome, push_ended};
 use crate::paths::{Path, opened, push_joined, push_passed};
-use chart_table::{Plan, Rows, leading_instances, plan_for, same_values};
+use crate::scene::{Scene, Sought, Trial};
+use chart_table::{Plan, Rows, Start, leading_instances, plan_for, same_values};
 use codeco_terms::{Category, Element, Rule, Value};
 use derivation_trees::{Setting, fits, under};
 use lists::List;
@@ -108,25 +109,27 @@ fn may_begin(
 // The number of the row of the category, which is made where it isn't there yet.
 #[cycle(best)]
 pub(crate) fn best_of(
-    alloc: Global,
-    setting: &Setting<'_>,
-    plans: &[Plan],
+    scene: &Scene<'_>,
     tables: &mut Tables,
-    depth: u32,
     asked: Test,
     place: u16,
     list: Access,
 ) -> Result<usize, Memory>
-    requires limited { IsLimited setting.now.grammar }
-    requires plans { ArePlans setting.now plans.now }
-    requires tables { tabled.AreTables setting.now tables.old }
-    ensures tables { OnOk result (tabled.AreTables setting.now tables.new) }
-    ensures row { IfOk result (λ number. tabled.HasBest setting.now tables.new.rows number asked (record { place = place; list = list })) }
+    requires limited { IsLimited scene.now.setting.now.grammar }
+    requires plans { ArePlans scene.now.setting.now scene.now.plans.now }
+    requires tables { tabled.AreTables scene.now.setting.now tables.old }
+    ensures tables { OnOk result (tabled.AreTables scene.now.setting.now tables.new) }
+    ensures row { IfOk result (λ number. tabled.HasBest scene.now.setting.now tables.new.rows number asked (record { place = place; list = list })) }
 {
     if let Some(number) = find(tables.rows.as_slice(), &asked, place, &list) {
         return Ok(number);
     }
-    let outcomes = all_outcomes(alloc, setting, plans, tables, depth, &asked, place, &list)?;
+    let sought = Sought {
+        asked: &asked,
+        place,
+        list: &list,
+    };
+    let outcomes = all_outcomes(scene, tables, &sought)?;
     let row = Best {
         asked,
         place,
@@ -140,29 +143,24 @@ pub(crate) fn best_of(
 // The least trees for the category, by all rules.
 #[cycle(best)]
 fn all_outcomes(
-    alloc: Global,
-    setting: &Setting<'_>,
-    plans: &[Plan],
+    scene: &Scene<'_>,
     tables: &mut Tables,
-    depth: u32,
-    asked: &Test,
-    place: u16,
-    start: &Access,
+    sought: &Sought<'_>,
 ) -> Result<List<Outcome>, Memory>
-    requires limited { IsLimited setting.now.grammar }
-    requires plans { ArePlans setting.now plans.now }
-    requires tables { tabled.AreTables setting.now tables.old }
-    ensures tables { OnOk result (tabled.AreTables setting.now tables.new) }
-    ensures best { IfOk result (ends.IsBest setting.now asked.now (record { place = place; list = start.now })) }
+    requires limited { IsLimited scene.now.setting.now.grammar }
+    requires plans { ArePlans scene.now.setting.now scene.now.plans.now }
+    requires tables { tabled.AreTables scene.now.setting.now tables.old }
+    ensures tables { OnOk result (tabled.AreTables scene.now.setting.now tables.new) }
+    ensures best { IfOk result (ends.IsBest scene.now.setting.now sought.now.asked.now (start_of sought.now)) }
 {
+    let setting = scene.setting;
     let rules = setting.grammar.rules().as_slice();
-    let mut out = List::new(alloc);
+    let mut out = List::new(scene.alloc);
     let mut number: u16 = 1;
     for (index, rule) in rules.iter().enumerate() {
-        let plan = plan_for(plans, index);
-        push_named(
-            alloc, setting, plans, tables, depth, asked, number, rule, plan, place, start, &mut out,
-        )?;
+        let plan = plan_for(scene.plans, index);
+        let trial = Trial { number, rule, plan };
+        push_named(scene, tables, sought, &trial, &mut out)?;
         number = next_number(number)?;
     }
     Ok(out)
@@ -171,31 +169,23 @@ fn all_outcomes(
 // Adds the least trees with the rule, if it has the name.
 #[cycle(best)]
 fn push_named(
-    alloc: Global,
-    setting: &Setting<'_>,
-    plans: &[Plan],
+    scene: &Scene<'_>,
     tables: &mut Tables,
-    depth: u32,
-    asked: &Test,
-    number: u16,
-    rule: &Rule,
-    plan: &Plan,
-    place: u16,
-    start: &Access,
+    sought: &Sought<'_>,
+    trial: &Trial<'_>,
     out: &mut List<Outcome>,
 ) -> Result<(), Memory>
-    requires limited { IsLimited setting.now.grammar }
-    requires plans { ArePlans setting.now plans.now }
-    requires tables { tabled.AreTables setting.now tables.old }
-    requires has { rule_with setting.now.grammar number ≡ Some rule.now }
-    requires plan { IsPlan setting.now rule.now plan.now }
-    ensures tables { OnOk result (tabled.AreTables setting.now tables.new) }
-    ensures trees { OnOk result (ends.HasTrees setting.now asked.now (record { place = place; list = start.now }) (ends.IsOfRule number) out.old out.new) }
+    requires limited { IsLimited scene.now.setting.now.grammar }
+    requires plans { ArePlans scene.now.setting.now scene.now.plans.now }
+    requires tables { tabled.AreTables scene.now.setting.now tables.old }
+    requires has { rule_with scene.now.setting.now.grammar trial.now.number ≡ Some trial.now.rule.now }
+    requires plan { IsPlan scene.now.setting.now trial.now.rule.now trial.now.plan.now }
+    ensures tables { OnOk result (tabled.AreTables scene.now.setting.now tables.new) }
+    ensures trees { OnOk result (ends.HasTrees scene.now.setting.now sought.now.asked.now (start_of sought.now)
+        (ends.IsOfRule trial.now.number) out.old out.new) }
 {
-    if rule.head.name == asked.name {
-        push_rule(
-            alloc, setting, plans, tables, depth, asked, number, rule, plan, place, start, out,
-        )?;
+    if trial.rule.head.name == sought.asked.name {
+        push_rule(scene, tables, sought, trial, out)?;
         return Ok(());
     }
     Ok(())
@@ -204,98 +194,60 @@ fn push_named(
 // Adds the least trees with the rule.
 #[cycle(best)]
 fn push_rule(
-    alloc: Global,
-    setting: &Setting<'_>,
-    plans: &[Plan],
+    scene: &Scene<'_>,
     tables: &mut Tables,
-    depth: u32,
-    asked: &Test,
-    number: u16,
-    rule: &Rule,
-    plan: &Plan,
-    place: u16,
-    start: &Access,
+    sought: &Sought<'_>,
+    trial: &Trial<'_>,
     out: &mut List<Outcome>,
 ) -> Result<(), Memory>
-    requires limited { IsLimited setting.now.grammar }
-    requires plans { ArePlans setting.now plans.now }
-    requires tables { tabled.AreTables setting.now tables.old }
-    requires has { rule_with setting.now.grammar number ≡ Some rule.now }
-    requires plan { IsPlan setting.now rule.now plan.now }
-    ensures tables { OnOk result (tabled.AreTables setting.now tables.new) }
-    ensures trees { OnOk result (ends.HasTrees setting.now asked.now (record { place = place; list = start.now }) (ends.IsOfRule number) out.old out.new) }
+    requires limited { IsLimited scene.now.setting.now.grammar }
+    requires plans { ArePlans scene.now.setting.now scene.now.plans.now }
+    requires tables { tabled.AreTables scene.now.setting.now tables.old }
+    requires has { rule_with scene.now.setting.now.grammar trial.now.number ≡ Some trial.now.rule.now }
+    requires plan { IsPlan scene.now.setting.now trial.now.rule.now trial.now.plan.now }
+    ensures tables { OnOk result (tabled.AreTables scene.now.setting.now tables.new) }
+    ensures trees { OnOk result (ends.HasTrees scene.now.setting.now sought.now.asked.now (start_of sought.now)
+        (ends.IsOfRule trial.now.number) out.old out.new) }
 {
+    let start = Start {
+        known: sought.asked.values.as_slice(),
+        place: sought.place,
+        list: sought.list,
+    };
     let instances = leading_instances(
-        alloc,
-        setting,
-        plans,
+        scene.alloc,
+        scene.setting,
+        scene.plans,
         &mut tables.ends,
-        rule,
-        plan,
-        asked.values.as_slice(),
-        place,
-        start,
+        trial.rule,
+        trial.plan,
+        &start,
     )?;
-    push_instances(
-        alloc,
-        setting,
-        plans,
-        tables,
-        depth,
-        asked,
-        number,
-        rule,
-        plan,
-        place,
-        start,
-        instances.as_slice(),
-        out,
-    )?;
+    push_instances(scene, tables, sought, trial, instances.as_slice(), out)?;
     Ok(())
 }
 
 // Adds the least trees with the rule and each of the instances.
 #[cycle(best)]
 fn push_instances(
-    alloc: Global,
-    setting: &Setting<'_>,
-    plans: &[Plan],
+    scene: &Scene<'_>,
     tables: &mut Tables,
-    depth: u32,
-    asked: &Test,
-    number: u16,
-    rule: &Rule,
-    plan: &Plan,
-    place: u16,
-    start: &Access,
+    sought: &Sought<'_>,
+    trial: &Trial<'_>,
     instances: &[List<(u8, Value)>],
     out: &mut List<Outcome>,
 ) -> Result<(), Memory>
-    requires limited { IsLimited setting.now.grammar }
-    requires plans { ArePlans setting.now plans.now }
-    requires tables { tabled.AreTables setting.now tables.old }
-    requires has { rule_with setting.now.grammar number ≡ Some rule.now }
-    requires plan { IsPlan setting.now rule.now plan.now }
-    ensures tables { OnOk result (tabled.AreTables setting.now tables.new) }
-    ensures trees { OnOk result (ends.HasTrees setting.now asked.now (record { place = place; list = start.now }) (ends.IsOfInstances number instances.now)
-        out.old out.new) }
+    requires limited { IsLimited scene.now.setting.now.grammar }
+    requires plans { ArePlans scene.now.setting.now scene.now.plans.now }
+    requires tables { tabled.AreTables scene.now.setting.now tables.old }
+    requires has { rule_with scene.now.setting.now.grammar trial.now.number ≡ Some trial.now.rule.now }
+    requires plan { IsPlan scene.now.setting.now trial.now.rule.now trial.now.plan.now }
+    ensures tables { OnOk result (tabled.AreTables scene.now.setting.now tables.new) }
+    ensures trees { OnOk result (ends.HasTrees scene.now.setting.now sought.now.asked.now (start_of sought.now)
+        (ends.IsOfInstances trial.now.number instances.now) out.old out.new) }
 {
     for values in instances {
-        push_instance(
-            alloc,
-            setting,
-            plans,
-            tables,
-            depth,
-            asked,
-            number,
-            rule,
-            plan,
-            place,
-            start,
-            values.as_slice(),
-            out,
-        )?;
+        push_instance(scene, tables, sought, trial, values.as_slice(), out)?;
     }
     Ok(())
 }
@@ -303,79 +255,54 @@ fn push_instances(
 // Adds the least trees with the rule and the instance.
 #[cycle(best)]
 fn push_instance(
-    alloc: Global,
-    setting: &Setting<'_>,
-    plans: &[Plan],
+    scene: &Scene<'_>,
     tables: &mut Tables,
-    depth: u32,
-    asked: &Test,
-    number: u16,
-    rule: &Rule,
-    plan: &Plan,
-    place: u16,
-    start: &Access,
+    sought: &Sought<'_>,
+    trial: &Trial<'_>,
     values: &[(u8, Value)],
     out: &mut List<Outcome>,
 ) -> Result<(), Memory>
-    requires limited { IsLimited setting.now.grammar }
-    requires plans { ArePlans setting.now plans.now }
-    requires tables { tabled.AreTables setting.now tables.old }
-    requires has { rule_with setting.now.grammar number ≡ Some rule.now }
-    requires plan { IsPlan setting.now rule.now plan.now }
-    ensures tables { OnOk result (tabled.AreTables setting.now tables.new) }
-    ensures trees { OnOk result (ends.HasTrees setting.now asked.now (record { place = place; list = start.now }) (ends.IsOfInstance number values.now) out.old
-        out.new) }
+    requires limited { IsLimited scene.now.setting.now.grammar }
+    requires plans { ArePlans scene.now.setting.now scene.now.plans.now }
+    requires tables { tabled.AreTables scene.now.setting.now tables.old }
+    requires has { rule_with scene.now.setting.now.grammar trial.now.number ≡ Some trial.now.rule.now }
+    requires plan { IsPlan scene.now.setting.now trial.now.rule.now trial.now.plan.now }
+    ensures tables { OnOk result (tabled.AreTables scene.now.setting.now tables.new) }
+    ensures trees { OnOk result (ends.HasTrees scene.now.setting.now sought.now.asked.now (start_of sought.now)
+        (ends.IsOfInstance trial.now.number values.now) out.old out.new) }
 {
-    if !may_begin(alloc, setting, rule, plan, asked, values)? {
+    let Scene { alloc, setting, .. } = *scene;
+    let Trial { number, rule, plan } = *trial;
+    if !may_begin(alloc, setting, rule, plan, sought.asked, values)? {
         return Ok(());
     }
-    let first = opened(alloc, rule, values, place, start)?;
-    let paths = run_all(
-        alloc,
-        setting,
-        plans,
-        tables,
-        depth,
-        values,
-        rule.body.as_slice(),
-        first,
-    )?;
-    push_ended(alloc, number, rule, values, start, paths.as_slice(), out)?;
+    let list = sought.list;
+    let first = opened(alloc, rule, values, sought.place, list)?;
+    let paths = run_all(scene, tables, values, rule.body.as_slice(), first)?;
+    push_ended(alloc, number, rule, values, list, paths.as_slice(), out)?;
     Ok(())
 }
 
 // The paths after all elements.
 #[cycle(best)]
 fn run_all(
-    alloc: Global,
-    setting: &Setting<'_>,
-    plans: &[Plan],
+    scene: &Scene<'_>,
     tables: &mut Tables,
-    depth: u32,
     values: &[(u8, Value)],
     body: &[Element],
     first: Path,
 ) -> Result<List<Path>, Memory>
-    requires limited { IsLimited setting.now.grammar }
-    requires plans { ArePlans setting.now plans.now }
-    requires within { All (IsWithin setting.now.grammar) body.now }
-    requires tables { tabled.AreTables setting.now tables.old }
-    ensures tables { OnOk result (tabled.AreTables setting.now tables.new) }
-    ensures paths { IfOk result (λ out. ways.AreReached setting.now values.now body.now (path_of first) (map path_of out)) }
+    requires limited { IsLimited scene.now.setting.now.grammar }
+    requires plans { ArePlans scene.now.setting.now scene.now.plans.now }
+    requires within { All (IsWithin scene.now.setting.now.grammar) body.now }
+    requires tables { tabled.AreTables scene.now.setting.now tables.old }
+    ensures tables { OnOk result (tabled.AreTables scene.now.setting.now tables.new) }
+    ensures paths { IfOk result (λ out. ways.AreReached scene.now.setting.now values.now body.now (path_of first) (map path_of out)) }
 {
-    let mut paths = List::new(alloc);
+    let mut paths = List::new(scene.alloc);
     paths.push(first)?;
     for element in body {
-        paths = step_all(
-            alloc,
-            setting,
-            plans,
-            tables,
-            depth,
-            values,
-            element,
-            paths.as_slice(),
-        )?;
+        paths = step_all(scene, tables, values, element, paths.as_slice())?;
     }
     Ok(paths)
 }
@@ -383,61 +310,51 @@ fn run_all(
 // The paths after one element, from each of these.
 #[cycle(best)]
 fn step_all(
-    alloc: Global,
-    setting: &Setting<'_>,
-    plans: &[Plan],
+    scene: &Scene<'_>,
     tables: &mut Tables,
-    depth: u32,
     values: &[(u8, Value)],
     element: &Element,
     paths: &[Path],
 ) -> Result<List<Path>, Memory>
-    requires limited { IsLimited setting.now.grammar }
-    requires plans { ArePlans setting.now plans.now }
-    requires within { IsWithin setting.now.grammar element.now }
-    requires tables { tabled.AreTables setting.now tables.old }
-    ensures tables { OnOk result (tabled.AreTables setting.now tables.new) }
-    ensures steps { IfOk result (λ out. ways.AreStepsOf setting.now values.now element.now (map path_of paths.now) (map path_of out)) }
+    requires limited { IsLimited scene.now.setting.now.grammar }
+    requires plans { ArePlans scene.now.setting.now scene.now.plans.now }
+    requires within { IsWithin scene.now.setting.now.grammar element.now }
+    requires tables { tabled.AreTables scene.now.setting.now tables.old }
+    ensures tables { OnOk result (tabled.AreTables scene.now.setting.now tables.new) }
+    ensures steps { IfOk result (λ out. ways.AreStepsOf scene.now.setting.now values.now element.now (map path_of paths.now) (map path_of out)) }
 {
-    let mut out = List::new(alloc);
+    let mut out = List::new(scene.alloc);
     for path in paths {
-        push_steps(
-            alloc, setting, plans, tables, depth, values, element, path, &mut out,
-        )?;
+        push_steps(scene, tables, values, element, path, &mut out)?;
     }
-    let left = earliest(alloc, out)?;
+    let left = earliest(scene.alloc, out)?;
     Ok(left)
 }
 
 // Adds the paths after one element.
 #[cycle(best)]
 fn push_steps(
-    alloc: Global,
-    setting: &Setting<'_>,
-    plans: &[Plan],
+    scene: &Scene<'_>,
     tables: &mut Tables,
-    depth: u32,
     values: &[(u8, Value)],
     element: &Element,
     path: &Path,
     out: &mut List<Path>,
 ) -> Result<(), Memory>
-    requires limited { IsLimited setting.now.grammar }
-    requires plans { ArePlans setting.now plans.now }
-    requires within { IsWithin setting.now.grammar element.now }
-    requires tables { tabled.AreTables setting.now tables.old }
-    ensures tables { OnOk result (tabled.AreTables setting.now tables.new) }
-    ensures steps { OnOk result (ways.HasSteps setting.now values.now element.now (path_of path.now) (map path_of out.old) (map path_of out.new)) }
+    requires limited { IsLimited scene.now.setting.now.grammar }
+    requires plans { ArePlans scene.now.setting.now scene.now.plans.now }
+    requires within { IsWithin scene.now.setting.now.grammar element.now }
+    requires tables { tabled.AreTables scene.now.setting.now tables.old }
+    ensures tables { OnOk result (tabled.AreTables scene.now.setting.now tables.new) }
+    ensures steps { OnOk result (ways.HasSteps scene.now.setting.now values.now element.now (path_of path.now) (map path_of out.old) (map path_of out.new)) }
 {
     match element {
         Element::Sub(category) => {
-            push_child(
-                alloc, setting, plans, tables, depth, values, category, path, out,
-            )?;
+            push_child(scene, tables, values, category, path, out)?;
             Ok(())
         }
         _ => {
-            push_passed(alloc, setting, values, element, path, out)?;
+            push_passed(scene.alloc, scene.setting, values, element, path, out)?;
             Ok(())
         }
     }
@@ -446,29 +363,30 @@ fn push_steps(
 // Adds the paths after a category. Calls are nested as deep as categories are, which the grammar bounds.
 #[cycle(best)]
 fn push_child(
-    alloc: Global,
-    setting: &Setting<'_>,
-    plans: &[Plan],
+    scene: &Scene<'_>,
     tables: &mut Tables,
-    depth: u32,
     values: &[(u8, Value)],
     category: &Category,
     path: &Path,
     out: &mut List<Path>,
 ) -> Result<(), Memory>
-    requires limited { IsLimited setting.now.grammar }
-    requires plans { ArePlans setting.now plans.now }
-    requires tables { tabled.AreTables setting.now tables.old }
-    ensures tables { OnOk result (tabled.AreTables setting.now tables.new) }
-    ensures steps { OnOk result (ways.HasSteps setting.now values.now (Sub category.now) (path_of path.now) (map path_of out.old) (map path_of out.new)) }
+    requires limited { IsLimited scene.now.setting.now.grammar }
+    requires plans { ArePlans scene.now.setting.now scene.now.plans.now }
+    requires tables { tabled.AreTables scene.now.setting.now tables.old }
+    ensures tables { OnOk result (tabled.AreTables scene.now.setting.now tables.new) }
+    ensures steps { OnOk result (ways.HasSteps scene.now.setting.now values.now (Sub category.now) (path_of path.now) (map path_of out.old)
+        (map path_of out.new)) }
 {
-    let deeper = depth.checked_sub(1).ok_or(Memory)?;
-    let asked = under(alloc, values, category)?;
+    let deeper = Scene {
+        alloc: scene.alloc,
+        setting: scene.setting,
+        plans: scene.plans,
+        depth: scene.depth.checked_sub(1).ok_or(Memory)?,
+    };
+    let asked = under(scene.alloc, values, category)?;
     let list = path.list.referents()?;
-    let number = best_of(
-        alloc, setting, plans, tables, deeper, asked, path.place, list,
-    )?;
-    push_best(alloc, path, tables.rows.as_slice(), number, out)?;
+    let number = best_of(&deeper, tables, asked, path.place, list)?;
+    push_best(scene.alloc, path, tables.rows.as_slice(), number, out)?;
     Ok(())
 }
 

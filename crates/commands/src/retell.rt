@@ -103,23 +103,36 @@ pub fn why<S: Source, K: Sink>(
     ensures link_fault { result ≡ Outcome.LinkFault → ⊥ }
 {
     match RecallingWiki::new(alloc, budget) {
-        Ok(mut wiki) => why_input(alloc, &mut wiki, budget, article, at, name, input, output),
+        Ok(mut wiki) => {
+            let asked = Asked {
+                budget,
+                article,
+                at,
+                name,
+            };
+            why_input(alloc, &mut wiki, &asked, input, output)
+        }
         Err(Memory) => Outcome::Memory,
     }
+}
+
+// What `why` is asked: the sentence at a place of an article, or the name as an answer to it, with the budget of each search.
+struct Asked<'a> {
+    budget: u64,
+    article: &'a str,
+    at: u32,
+    name: Option<&'a str>,
 }
 
 // Steps the wiki through the lines of the input, and tells why a sentence isn't asserted then, or why a name is an answer to it.
 fn why_input<S: Source, K: Sink>(
     alloc: Global,
     wiki: &mut RecallingWiki,
-    budget: u64,
-    article: &str,
-    at: u32,
-    name: Option<&str>,
+    asked: &Asked<'_>,
     input: &mut S,
     output: &mut K,
 ) -> Outcome
-    ensures retells { Retells (IsWhy budget article.now at (option_map (λ form. form.now) name.entry)) wiki.old
+    ensures retells { Retells (IsWhy asked.now.budget asked.now.article.now asked.now.at (option_map (λ form. form.now) asked.now.name)) wiki.old
         (S.left input.old) (K.taken output.old) result (S.left input.new) (K.taken output.new) }
     ensures read_fault { result ≡ Outcome.ReadFault → Rose (S.faults input.old) (S.faults input.new) }
     ensures write_fault { result ≡ Outcome.WriteFault → Rose (K.faults output.old) (K.faults output.new) }
@@ -127,7 +140,8 @@ fn why_input<S: Source, K: Sink>(
 {
     match step_input(alloc, wiki, input) {
         Outcome::Done => {
-            let text = retelling::why(alloc, wiki.inner(), budget, article, at, name);
+            let (budget, at) = (asked.budget, asked.at);
+            let text = retelling::why(alloc, wiki.inner(), budget, asked.article, at, asked.name);
             write(text, output)
         }
         outcome => outcome,

@@ -3,8 +3,8 @@ use crate::concepts::{Concepts, Form};
 use logic_terms::{Knowledge, Role};
 use std::alloc::Global;
 use std::collections::{BTreeMap, BTreeSet};
-use tableau_rules::{Branch, root_count};
-use wiki_base::Memory;
+use tableau_rules::{Branch, node_of, root_count, start};
+use wiki_base::{Memory, WordId};
 
 // The rules, in the order in which they are tried.
 #[derive(Clone, Copy, Debug, PartialEq, Eq, PartialOrd, Ord)]
@@ -90,9 +90,9 @@ fn spread(concept: u64) -> u64 {
 }
 
 impl Graph {
-    // The first branch.
-    pub(crate) fn begun(alloc: Global, k: &Knowledge, first: &Branch) -> Result<Graph, Memory> {
-        let mut graph = Graph {
+    // A branch without nodes.
+    fn empty(alloc: Global, k: &Knowledge) -> Graph {
+        Graph {
             alloc,
             concepts: Concepts::new(alloc),
             general: Vec::new(alloc),
@@ -103,29 +103,67 @@ impl Graph {
             agenda: BTreeSet::new(alloc),
             trail: Vec::new(alloc),
             weights: BTreeMap::new(alloc),
-        };
+        }
+    }
+
+    // The first branch.
+    pub(crate) fn begun(alloc: Global, k: &Knowledge, first: &Branch) -> Result<Graph, Memory> {
+        let mut graph = Graph::empty(alloc, k);
         let labels = graph.numbered(k, first)?;
-        for node in 0..labels.len() {
-            graph.add_node(None)?;
+        graph.concepts.unfold(k)?;
+        graph.concepts.complete(k)?;
+        graph.begin(labels.as_slice(), first)?;
+        Ok(graph)
+    }
+
+    // The first branch of a part of knowledge, with the numbers that classes have in the whole. Names that the part doesn't speak of
+    // have empty labels.
+    pub(crate) fn within(
+        alloc: Global,
+        k: &Knowledge,
+        part: &Knowledge,
+        first: &Branch,
+    ) -> Result<Graph, Memory> {
+        let mut graph = Graph::empty(alloc, k);
+        let _ = graph.numbered(k, first)?;
+        graph.general.clear();
+        let beginning = start(alloc, part)?;
+        let all = graph.numbered(part, &beginning)?;
+        graph.concepts.unfold(part)?;
+        let named = graph.named(part)?;
+        graph.concepts.complete(k)?;
+        let mut labels = Vec::new(alloc);
+        for (node, label) in all.into_iter().enumerate() {
+            let is_named = named.contains(&(node as u64)) || (named.is_empty() && node == 0);
+            labels.push(if is_named { label } else { Vec::new(alloc) })?;
+        }
+        graph.begin(labels.as_slice(), &beginning)?;
+        Ok(graph)
+    }
+
+    // Makes the nodes and edges of a branch, with these labels.
+    fn begin(&mut self, labels: &[Vec<u64>], first: &Branch) -> Result<(), Memory> {
+        for _ in 0..labels.len() {
+            self.add_node(None)?;
         }
         for (node, label) in labels.iter().enumerate() {
             for concept in label {
-                graph.add_class(node as u64, *concept, 0)?;
+                self.add_class(node as u64, *concept, 0)?;
             }
         }
         for edge in first.edges() {
-            graph.add_edge(Link {
+            self.add_edge(Link {
                 from: edge.from,
                 role: edge.role,
                 to: edge.to,
                 maker: 0,
             })?;
         }
-        graph.trail.clear();
-        Ok(graph)
+        self.trail.clear();
+        Ok(())
     }
 
-    // The labels of the first branch, when all classes have their numbers.
+    // The labels of a branch, when all classes have their numbers.
     fn numbered(&mut self, k: &Knowledge, first: &Branch) -> Result<Vec<Vec<u64>>, Memory> {
         for class in k.general().as_slice() {
             let number = self.concepts.number_of(class)?;
@@ -140,9 +178,27 @@ impl Graph {
             }
             labels.push(label)?;
         }
-        self.concepts.unfold(k)?;
-        self.concepts.complete(k)?;
+        self.concepts.number_all(k)?;
         Ok(labels)
+    }
+
+    // The nodes of names of which a part of knowledge says something.
+    fn named(&mut self, part: &Knowledge) -> Result<BTreeSet<u64>, Memory> {
+        let mut names = self.concepts.values(part)?;
+        for entry in part.assertions() {
+            let _ = names.insert(entry.0.0)?;
+        }
+        for edge in part.edges() {
+            let _ = names.insert(edge.1.0)?;
+            let _ = names.insert(edge.2.0)?;
+        }
+        let mut nodes = BTreeSet::new(self.alloc);
+        for name in names.iter() {
+            if let Some(node) = node_of(part, WordId(*name)) {
+                let _ = nodes.insert(node)?;
+            }
+        }
+        Ok(nodes)
     }
 
     pub(crate) fn label_len(&self, node: u64) -> u64 {

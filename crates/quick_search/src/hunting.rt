@@ -53,10 +53,14 @@ struct Taken {
     needs: BTreeSet<u64>,
 }
 
-// How a turn ends.
+// How a turn ends: with a clash or none, with a branch to which no rule applies, with all branches closed, or where a step
+// leaves no choice.
+#[derive(Drop)]
 enum Turn {
     Going(Option<Found>),
-    Ended(Proposal),
+    Open,
+    Shut(Proof),
+    Stuck,
 }
 
 // A search: its branch, the choices that led to it, and whether it may leave choices out that a clash does not rest on.
@@ -87,40 +91,88 @@ pub fn hunt(
         path: Vec::new(alloc),
         leaps,
     };
-    let mut found = None;
-    for _ in 0..budget {
-        match search.turn(k, found)? {
-            Turn::Going(next) => found = next,
-            Turn::Ended(proposal) => return Ok(proposal),
+    match search.run(k, None, budget)? {
+        Turn::Open => Ok(Proposal::Steps(search.steps()?)),
+        Turn::Shut(proof) => {
+            search.graph.undo(0)?;
+            match write(&mut search.graph, k, &proof)? {
+                Some(tree) => Ok(Proposal::Tree(tree)),
+                None => Ok(Proposal::Nothing),
+            }
         }
+        _ => Ok(Proposal::Nothing),
     }
-    search.last(k, found)
+}
+
+/// Searches for a closed tree of knowledge by a part of it alone, which has the same names and roles, with at most `budget` rule
+/// applications. `first` is the first branch of the whole. It leaps, as `hunt` does.
+pub fn hunt_within(
+    alloc: Global,
+    k: &Knowledge,
+    part: &Knowledge,
+    first: &Branch,
+    budget: u64,
+) -> Result<Option<Closed>, Memory> {
+    if let Some(found) = clash(k, first) {
+        return Ok(Some(Closed::Clash(found)));
+    }
+    let mut search = Search {
+        graph: Graph::within(alloc, k, part, first)?,
+        path: Vec::new(alloc),
+        leaps: true,
+    };
+    let found = search.clash_at_first(k)?;
+    match search.run(k, found, budget)? {
+        Turn::Shut(proof) => {
+            let mut whole = Graph::begun(alloc, k, first)?;
+            write(&mut whole, k, &proof)
+        }
+        _ => Ok(None),
+    }
 }
 
 impl Search {
+    // Searches with so many applications at most, from a clash on, if there is one.
+    fn run(&mut self, k: &Knowledge, first: Option<Found>, budget: u64) -> Result<Turn, Memory> {
+        let mut found = first;
+        for _ in 0..budget {
+            match self.turn(k, found)? {
+                Turn::Going(next) => found = next,
+                ended => return Ok(ended),
+            }
+        }
+        self.last(k, found)
+    }
+
+    // A clash of the first branch.
+    fn clash_at_first(&self, k: &Knowledge) -> Result<Option<Found>, Memory> {
+        for node in 0..self.graph.roots {
+            if let Some(found) = self.graph.clash_from(k, node, 0)? {
+                return Ok(Some(found));
+            }
+        }
+        Ok(None)
+    }
+
     // The next application, or the end.
     fn turn(&mut self, k: &Knowledge, found: Option<Found>) -> Result<Turn, Memory> {
         match found {
             Some(clash) => self.back(k, clash),
             None => match self.next(k)? {
                 Some(step) => self.forward(k, step.0, step.1),
-                None => Ok(Turn::Ended(Proposal::Steps(self.steps()?))),
+                None => Ok(Turn::Open),
             },
         }
     }
 
     // The end where no application is left.
-    fn last(&mut self, k: &Knowledge, found: Option<Found>) -> Result<Proposal, Memory> {
-        let ended = match found {
-            Some(clash) => self.back(k, clash)?,
+    fn last(&mut self, k: &Knowledge, found: Option<Found>) -> Result<Turn, Memory> {
+        match found {
+            Some(clash) => self.back(k, clash),
             None => match self.next(k)? {
-                Some(_) => Turn::Going(None),
-                None => Turn::Ended(Proposal::Steps(self.steps()?)),
+                Some(_) => Ok(Turn::Going(None)),
+                None => Ok(Turn::Open),
             },
-        };
-        match ended {
-            Turn::Ended(proposal) => Ok(proposal),
-            Turn::Going(_) => Ok(Proposal::Nothing),
         }
     }
 
@@ -148,7 +200,7 @@ impl Search {
         let alloc = self.graph.alloc;
         let choices = self.graph.choices(candidate);
         if choices == 0 {
-            return Ok(Turn::Ended(Proposal::Nothing));
+            return Ok(Turn::Stuck);
         }
         let split = Split {
             rank: candidate.rank,
@@ -204,12 +256,7 @@ impl Search {
                 needs = rests_on;
             }
         }
-        self.graph.undo(0)?;
-        let written = write(&mut self.graph, k, &proof)?;
-        Ok(Turn::Ended(match written {
-            Some(tree) => Proposal::Tree(tree),
-            None => Proposal::Nothing,
-        }))
+        Ok(Turn::Shut(proof))
     }
 
     // Takes the choice that follows the last one.

@@ -9,4 +9,4 @@ mod sites;
 mod taking;
 mod writing;
 
-pub use hunting::{Proposal, hunt};
+pub use hunting::{Proposal, hunt, hunt_within};

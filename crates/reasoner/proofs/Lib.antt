@@ -1,1 +1,2 @@
 pub mod OneKnowledge
+pub mod PartLemmas

@@ -11,11 +11,12 @@ ghost use Rattle.tableau_rules.specs.Trees.{tree_of};
 ghost use Rattle.reasoner.specs.Verdicts.{IfConsistent, IfInconsistent, IfSpent, IsFiniteModel, HaveNoModel, ClosesAll, SpendsAll, IsBelowEnough, IsBelowWithoutChoices, IsBelowWithoutNewNodes};
 
 use crate::deciding::decide;
+use crate::refuting::{Stated, refuted};
 use absorb::absorb;
 use logic_terms::{Axioms, Names};
 use model_growth::grow;
 use owl_eval::{CheckedModel, Interp};
-use shared_search::propose;
+use shared_search::{Proposed, propose};
 use std::alloc::Global;
 use tableau::Verdict;
 use wiki_base::Memory;
@@ -89,7 +90,7 @@ fn grown_verdict(
     }
     match grow(alloc, kept.interp(), &axioms, names)? {
         Some(grown) => tried_verdict(alloc, grown, axioms, names, kept, budget),
-        None => searched_verdict(alloc, axioms, names, budget),
+        None => proposed_verdict(alloc, axioms, names, Some(kept.interp()), budget),
     }
 }
 
@@ -120,13 +121,13 @@ fn tried_verdict(
         }
         Err(refused) => {
             let (_, axioms) = refused;
-            searched_verdict(alloc, axioms, names, budget)
+            proposed_verdict(alloc, axioms, names, Some(kept.interp()), budget)
         }
     }
 }
 
-/// The verdict for axioms that the kept interpretation is not a model of: from a budget of 100,000 on an interpretation in which
-/// successors are shared is tried first, and then the search decides.
+/// The verdict for axioms without an interpretation that is kept: from a budget of 100,000 on a small one is looked for first, in
+/// which successors are shared, and a part of the axioms that contradicts itself; else the search decides.
 pub fn searched_verdict(
     alloc: Global,
     axioms: Axioms,
@@ -144,21 +145,47 @@ pub fn searched_verdict(
     ensures straight { IfOk result (λ v. IfSpent v (λ _. IsBelowWithoutChoices (claims_of axioms) names.now budget)) }
     ensures short { IfOk result (λ v. IfSpent v (λ _. IsBelowWithoutNewNodes (claims_of axioms) names.now budget)) }
 {
+    proposed_verdict(alloc, axioms, names, None, budget)
+}
+
+// The verdict for axioms that the kept interpretation, if there is one, is not a model of.
+fn proposed_verdict(
+    alloc: Global,
+    axioms: Axioms,
+    names: &Names,
+    kept: Option<&Interp>,
+    budget: u64,
+) -> Result<Verdict<CheckedModel>, Memory>
+    requires over { IsTrue (are_over names.now (claims_of axioms)) }
+    requires plain { IsTrue (are_plain (claims_of axioms)) }
+    ensures consistent { IfOk result (λ v. IfConsistent v (λ m. kept_claims m ≡ claims_of axioms)) }
+    ensures model { IfOk result (λ v. IfConsistent v (λ m. IsFiniteModel (kept_interp m) (claims_of axioms))) }
+    ensures inconsistent { IfOk result (λ v. IfInconsistent v (λ tree. ClosesAll (claims_of axioms) names.now (tree_of tree))) }
+    ensures impossible { IfOk result (λ v. IfInconsistent v (λ _. HaveNoModel (claims_of axioms))) }
+    ensures spent { IfOk result (λ v. IfSpent v (λ b. SpendsAll (claims_of axioms) names.now budget (graph_of b))) }
+    ensures enough { IfOk result (λ v. IfSpent v (λ _. IsBelowEnough (claims_of axioms) names.now budget)) }
+    ensures straight { IfOk result (λ v. IfSpent v (λ _. IsBelowWithoutChoices (claims_of axioms) names.now budget)) }
+    ensures short { IfOk result (λ v. IfSpent v (λ _. IsBelowWithoutNewNodes (claims_of axioms) names.now budget)) }
+{
     if budget < LEAST_PROPOSING_BUDGET {
         return decided_verdict(alloc, axioms, names, budget);
     }
-    match proposed(alloc, &axioms, names)? {
-        Some(interp) => shared_verdict(alloc, interp, axioms, names, budget),
-        None => decided_verdict(alloc, axioms, names, budget),
+    let knowledge = absorb(alloc, &axioms, names)?;
+    match propose(alloc, &knowledge, &axioms, kept, MOST_LOOKS)? {
+        Proposed::Model(interp) => shared_verdict(alloc, interp, axioms, names, budget),
+        Proposed::Clash(places) => {
+            let stated = Stated {
+                axioms: &axioms,
+                names,
+                knowledge: &knowledge,
+            };
+            match refuted(alloc, &stated, places.as_slice(), budget)? {
+                Some(tree) => Ok(Verdict::Inconsistent(tree)),
+                None => decided_verdict(alloc, axioms, names, budget),
+            }
+        }
+        Proposed::Nothing => decided_verdict(alloc, axioms, names, budget),
     }
-}
-
-// An interpretation that may be a model of axioms.
-fn proposed(alloc: Global, axioms: &Axioms, names: &Names) -> Result<Option<Interp>, Memory>
-    requires { IsTrue (are_over names.now (claims_of axioms.now)) }
-{
-    let k = absorb(alloc, axioms, names)?;
-    propose(alloc, &k, axioms, MOST_LOOKS)
 }
 
 // The verdict that an interpretation makes, if it is a model of the axioms, and else the search.

@@ -3,6 +3,7 @@
 
 mod deciding;
 mod judging;
+mod refuting;
 
 pub use deciding::decide;
 pub use judging::{searched_verdict, verdict};

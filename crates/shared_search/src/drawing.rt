@@ -68,7 +68,7 @@ impl Graph {
         for place in 0..self.nodes.len() {
             if let Some(node) = places.nodes.get(place).copied() {
                 for edge in self.outgoing(node) {
-                    if let Some(link) = self.live(*edge) {
+                    if let Some(link) = self.link(*edge) {
                         let _ = places.put(link.to)?;
                     }
                 }
@@ -102,7 +102,7 @@ impl Graph {
         let mut pairs = BTreeSet::new(self.alloc);
         for node in &places.nodes {
             for edge in self.outgoing(*node) {
-                if let Some(link) = self.live(*edge) {
+                if let Some(link) = self.link(*edge) {
                     add_link(&mut pairs, rules, places, link)?;
                 }
             }

@@ -1,14 +1,25 @@
-// The nodes that a search shares: one for each name, and one for each list of classes that a successor has to begin with.
+// The elements that a search speaks of, what is known of them, and the list of changes by which that is taken back.
 use crate::terms::{Form, Terms, Way};
 use std::alloc::Global;
 use std::collections::BTreeMap;
 use wiki_base::Memory;
 
-// What may be a reason: a class of a node, or an edge.
+// What may be a reason: a class of a node, an edge, or that a class of a node that asks for a successor has this one of those
+// that were there. The last is what a clash may deny of such an offer.
 #[derive(Clone, Copy, Debug, PartialEq, Eq, PartialOrd, Ord)]
 pub(crate) enum Fact {
     Class(usize, usize),
     Edge(usize),
+    Shared(usize),
+    Refused(usize),
+}
+
+// What a fact rests on beside its reasons: nothing, the axiom at a place, or a lesson.
+#[derive(Clone, Copy, Debug, PartialEq, Eq)]
+pub(crate) enum Ground {
+    Nothing,
+    Axiom(usize),
+    Lesson(usize),
 }
 
 // What a class of a node asks of its neighbours by a role: to be in another class.
@@ -21,11 +32,9 @@ pub(crate) struct Demand {
 
 #[derive(Drop)]
 pub(crate) struct Spot {
-    // The classes that it began with, where it is no name's.
-    core: Vec<usize>,
     pub(crate) label: Vec<usize>,
-    // Whether it has each class.
-    bits: Vec<u64>,
+    // Of each class, how long the list of changes was when it came; 0 of those that are missing.
+    since: Vec<u32>,
     // What its classes ask of its neighbours.
     pub(crate) demands: Vec<Demand>,
     // Its classes that are complements of values.
@@ -33,6 +42,10 @@ pub(crate) struct Spot {
     // The edges that begin here, and those that end here.
     pub(crate) outgoing: Vec<usize>,
     pub(crate) incoming: Vec<usize>,
+    // Whether it stands for an element now.
+    pub(crate) is_there: bool,
+    // The element of the kept model that it is like.
+    pub(crate) model: Option<u64>,
 }
 
 #[derive(Clone, Copy, Debug, PartialEq, Eq)]
@@ -40,48 +53,59 @@ pub(crate) struct Link {
     pub(crate) from: usize,
     pub(crate) way: Way,
     pub(crate) to: usize,
-    // The class of the first node for which the edge was made, where its end is a shared node.
-    pub(crate) source: Option<usize>,
-    // Whether no other edge took its place.
-    pub(crate) is_live: bool,
+    since: usize,
+}
+
+// A node that may be the successor that a class of another node asks for. Since when it is, or must not be.
+#[derive(Clone, Copy, Debug, PartialEq, Eq)]
+pub(crate) struct Offer {
+    pub(crate) node: usize,
+    pub(crate) number: usize,
+    pub(crate) other: usize,
+    shared: usize,
+    refused: usize,
 }
 
 // What was changed.
 #[derive(Clone, Copy, Debug, PartialEq, Eq)]
 pub(crate) enum Event {
     Came(Fact),
-    Cut(usize),
-    Made,
+    Made(usize),
 }
 
-// A change, where its reasons begin in the list of all reasons, and whether it was chosen without a reason.
+// A change, where its reasons begin in the list of all reasons, and what else it rests on.
 #[derive(Clone, Copy, Debug, PartialEq, Eq)]
 pub(crate) struct Change {
     pub(crate) event: Event,
     pub(crate) reasons: usize,
-    pub(crate) is_chosen: bool,
+    pub(crate) ground: Ground,
+}
+
+// Facts that contradict each other.
+#[derive(Drop)]
+pub(crate) struct Clash {
+    pub(crate) facts: Vec<Fact>,
+    pub(crate) ground: Ground,
 }
 
 #[derive(Drop)]
 pub(crate) struct Graph {
     pub(crate) alloc: Global,
-    // How many numbers the bits of a label take.
+    // How many classes there are.
     width: usize,
     pub(crate) nodes: Vec<Spot>,
     pub(crate) edges: Vec<Link>,
     pub(crate) trail: Vec<Change>,
     pub(crate) reasons: Vec<Fact>,
-    // The live edge of each class of a node that asks for a successor.
-    served: BTreeMap<(usize, usize), usize>,
-    shared: BTreeMap<Vec<usize>, usize>,
-    // What makes a clash, where there is one.
-    pub(crate) clash: Option<Vec<Fact>>,
+    // The node of its own for each class of a node that asks for a successor, where it was made once.
+    own: BTreeMap<(usize, usize), usize>,
+    numbers: BTreeMap<(usize, usize, usize), usize>,
+    pub(crate) offers: Vec<Offer>,
+    pub(crate) clash: Option<Clash>,
     // Classes of nodes that ask for a successor, and unions of nodes, which are still to be looked at from a place on.
     pub(crate) errands: Vec<(usize, usize)>,
     pub(crate) unions: Vec<(usize, usize)>,
 }
-
-const BITS: usize = 64;
 
 impl Spot {
     fn note_demands(&mut self, terms: &Terms, number: usize) -> Result<(), Memory> {
@@ -119,57 +143,51 @@ impl Graph {
     pub(crate) fn new(alloc: Global, terms: &Terms, roots: usize) -> Result<Graph, Memory> {
         let mut graph = Graph {
             alloc,
-            width: (terms.len() / BITS).saturating_add(1),
+            width: terms.len(),
             nodes: Vec::new(alloc),
             edges: Vec::new(alloc),
             trail: Vec::new(alloc),
             reasons: Vec::new(alloc),
-            served: BTreeMap::new(alloc),
-            shared: BTreeMap::new(alloc),
+            own: BTreeMap::new(alloc),
+            numbers: BTreeMap::new(alloc),
+            offers: Vec::new(alloc),
             clash: None,
             errands: Vec::new(alloc),
             unions: Vec::new(alloc),
         };
         for _ in 0..roots {
-            let core = Vec::new(alloc);
-            graph.push_node(core)?;
+            graph.push_node(false)?;
         }
         Ok(graph)
     }
 
-    fn push_node(&mut self, core: Vec<usize>) -> Result<(), Memory> {
-        let mut bits = Vec::with_capacity(self.alloc, self.width)?;
+    fn push_node(&mut self, is_there: bool) -> Result<(), Memory> {
+        let mut since = Vec::with_capacity(self.alloc, self.width)?;
         for _ in 0..self.width {
-            bits.push(0)?;
+            since.push(0)?;
         }
         self.nodes.push(Spot {
-            core,
             label: Vec::new(self.alloc),
-            bits,
+            since,
             demands: Vec::new(self.alloc),
             denied: Vec::new(self.alloc),
             outgoing: Vec::new(self.alloc),
             incoming: Vec::new(self.alloc),
+            is_there,
+            model: None,
         })?;
         Ok(())
     }
 
-    pub(crate) fn has(&self, node: usize, number: usize) -> bool {
+    fn since(&self, node: usize, number: usize) -> usize {
         match self.nodes.get(node) {
-            Some(spot) => match spot.bits.get(number / BITS) {
-                Some(bits) => (*bits >> (number % BITS)) & 1 == 1,
-                None => false,
-            },
-            None => false,
+            Some(spot) => spot.since.get(number).copied().unwrap_or(0) as usize,
+            None => 0,
         }
     }
 
-    fn flip(&mut self, node: usize, number: usize) {
-        if let Some(spot) = self.nodes.get_mut(node) {
-            if let Some(bits) = spot.bits.get_mut(number / BITS) {
-                *bits ^= 1 << (number % BITS);
-            }
-        }
+    pub(crate) fn has(&self, node: usize, number: usize) -> bool {
+        self.since(node, number) > 0
     }
 
     pub(crate) fn demands(&self, node: usize) -> &[Demand] {
@@ -200,79 +218,114 @@ impl Graph {
         }
     }
 
-    // An edge that is live.
-    pub(crate) fn live(&self, edge: usize) -> Option<Link> {
-        match self.edges.get(edge) {
-            Some(link) if link.is_live => Some(*link),
-            _ => None,
+    pub(crate) fn is_there(&self, node: usize) -> bool {
+        match self.nodes.get(node) {
+            Some(spot) => spot.is_there,
+            None => false,
         }
     }
 
-    // The live edge of a class of a node that asks for a successor.
-    pub(crate) fn served(&self, node: usize, number: usize) -> Option<usize> {
-        self.served.get(&(node, number)).copied()
+    // The element of the kept model that a node is like.
+    pub(crate) fn model_of(&self, node: usize) -> Option<u64> {
+        match self.nodes.get(node) {
+            Some(spot) => spot.model,
+            None => None,
+        }
     }
 
-    // The shared node that began with these classes.
-    pub(crate) fn shared(&self, core: &[usize]) -> Option<usize> {
-        self.shared.get(core).copied()
+    pub(crate) fn set_model(&mut self, node: usize, model: Option<u64>) {
+        if let Some(spot) = self.nodes.get_mut(node) {
+            spot.model = model;
+        }
     }
 
-    fn note(&mut self, event: Event, reasons: &[Fact], is_chosen: bool) -> Result<(), Memory> {
+    pub(crate) fn link(&self, edge: usize) -> Option<Link> {
+        self.edges.get(edge).copied()
+    }
+
+    // How long the list of changes was when a fact came, itself counted; 0 of a fact that is none.
+    pub(crate) fn came(&self, fact: Fact) -> usize {
+        match fact {
+            Fact::Class(node, number) => self.since(node, number),
+            Fact::Edge(edge) => match self.edges.get(edge) {
+                Some(link) => link.since,
+                None => 0,
+            },
+            Fact::Shared(number) => match self.offers.get(number) {
+                Some(offer) => offer.shared,
+                None => 0,
+            },
+            Fact::Refused(number) => match self.offers.get(number) {
+                Some(offer) => offer.refused,
+                None => 0,
+            },
+        }
+    }
+
+    // The reasons of the change at a place.
+    pub(crate) fn reasons_of(&self, place: usize) -> &[Fact] {
+        let begin = match self.trail.get(place) {
+            Some(change) => change.reasons,
+            None => self.reasons.len(),
+        };
+        let end = match self.trail.get(place.saturating_add(1)) {
+            Some(change) => change.reasons,
+            None => self.reasons.len(),
+        };
+        self.reasons.get(begin..end).unwrap_or(&[])
+    }
+
+    fn note(&mut self, event: Event, reasons: &[Fact], ground: Ground) -> Result<(), Memory> {
         let begin = self.reasons.len();
         self.reasons.extend_from_slice(reasons)?;
         self.trail.push(Change {
             event,
             reasons: begin,
-            is_chosen,
+            ground,
         })?;
         Ok(())
     }
 
-    // Adds a class to a node for these reasons.
+    // Adds a class to a node, for these reasons. Where the node has its complement, these clash with that.
     pub(crate) fn add(
         &mut self,
         terms: &Terms,
         node: usize,
         number: usize,
         reasons: &[Fact],
-    ) -> Result<(), Memory> {
-        self.put(terms, node, number, reasons, false)
-    }
-
-    // Adds a class to a node, for these reasons or by choice.
-    pub(crate) fn put(
-        &mut self,
-        terms: &Terms,
-        node: usize,
-        number: usize,
-        reasons: &[Fact],
-        is_chosen: bool,
+        ground: Ground,
     ) -> Result<(), Memory> {
         if self.has(node, number) {
             return Ok(());
         }
+        if terms.is_nothing(number) {
+            return self.clash_of(reasons, ground);
+        }
+        if let Some(denial) = terms.denial(number) {
+            if self.has(node, denial) {
+                let mut facts = Vec::from_slice(self.alloc, reasons)?;
+                facts.push(Fact::Class(node, denial))?;
+                return self.clash_of(facts.as_slice(), ground);
+            }
+        }
+        let since = self.trail.len().saturating_add(1);
         if let Some(spot) = self.nodes.get_mut(node) {
             spot.label.push(number)?;
+            if let Some(place) = spot.since.get_mut(number) {
+                *place = u32::try_from(since).unwrap_or(u32::MAX);
+            }
             spot.note_demands(terms, number)?;
         }
-        self.flip(node, number);
-        self.note(Event::Came(Fact::Class(node, number)), reasons, is_chosen)?;
-        if terms.is_nothing(number) {
-            return self.clash_of(&[Fact::Class(node, number)]);
-        }
-        match terms.denial(number) {
-            Some(denial) if self.has(node, denial) => {
-                self.clash_of(&[Fact::Class(node, number), Fact::Class(node, denial)])
-            }
-            _ => Ok(()),
-        }
+        self.note(Event::Came(Fact::Class(node, number)), reasons, ground)
     }
 
     // These facts contradict each other.
-    pub(crate) fn clash_of(&mut self, facts: &[Fact]) -> Result<(), Memory> {
+    pub(crate) fn clash_of(&mut self, facts: &[Fact], ground: Ground) -> Result<(), Memory> {
         if self.clash.is_none() {
-            self.clash = Some(Vec::from_slice(self.alloc, facts)?);
+            self.clash = Some(Clash {
+                facts: Vec::from_slice(self.alloc, facts)?,
+                ground,
+            });
         }
         Ok(())
     }
@@ -283,16 +336,15 @@ impl Graph {
         from: usize,
         way: Way,
         to: usize,
-        source: Option<usize>,
         reasons: &[Fact],
+        ground: Ground,
     ) -> Result<usize, Memory> {
         let edge = self.edges.len();
         self.edges.push(Link {
             from,
             way,
             to,
-            source,
-            is_live: true,
+            since: self.trail.len().saturating_add(1),
         })?;
         if let Some(spot) = self.nodes.get_mut(from) {
             spot.outgoing.push(edge)?;
@@ -300,48 +352,130 @@ impl Graph {
         if let Some(spot) = self.nodes.get_mut(to) {
             spot.incoming.push(edge)?;
         }
-        if let Some(number) = source {
-            let _ = self.served.insert((from, number), edge)?;
-        }
-        self.note(Event::Came(Fact::Edge(edge)), reasons, false)?;
+        self.note(Event::Came(Fact::Edge(edge)), reasons, ground)?;
         Ok(edge)
     }
 
-    // Lets an edge go, since another one takes its place.
-    pub(crate) fn cut(&mut self, edge: usize) -> Result<(), Memory> {
-        if let Some(link) = self.edges.get_mut(edge) {
-            link.is_live = false;
+    // The node that stands for a successor that a class of a node asks for, and for nothing else.
+    pub(crate) fn own(&mut self, node: usize, number: usize) -> Result<usize, Memory> {
+        if let Some(known) = self.own.get(&(node, number)) {
+            return Ok(*known);
         }
-        self.note(Event::Cut(edge), &[], false)
+        let made = self.nodes.len();
+        self.push_node(false)?;
+        let _ = self.own.insert((node, number), made)?;
+        Ok(made)
     }
 
-    // Makes a shared node, without classes.
-    pub(crate) fn make(&mut self, core: &[usize]) -> Result<usize, Memory> {
-        let node = self.nodes.len();
-        let copy = Vec::from_slice(self.alloc, core)?;
-        self.push_node(copy)?;
-        let copy = Vec::from_slice(self.alloc, core)?;
-        let _ = self.shared.insert(copy, node)?;
-        self.note(Event::Made, &[], false)?;
-        Ok(node)
+    // From now on a node stands for an element.
+    pub(crate) fn make(&mut self, node: usize) -> Result<(), Memory> {
+        self.set_there(node, true);
+        self.note(Event::Made(node), &[], Ground::Nothing)
     }
 
-    // Takes a change back.
-    pub(crate) fn undo(&mut self, change: Change) -> Result<(), Memory> {
-        match change.event {
-            Event::Came(Fact::Class(node, number)) => self.drop_class(node, number),
-            Event::Came(Fact::Edge(_)) => self.drop_edge(),
-            Event::Made => self.drop_node(),
-            Event::Cut(edge) => self.mend(edge)?,
+    // The number of an offer.
+    pub(crate) fn offer(
+        &mut self,
+        node: usize,
+        number: usize,
+        other: usize,
+    ) -> Result<usize, Memory> {
+        if let Some(known) = self.numbers.get(&(node, number, other)) {
+            return Ok(*known);
         }
-        self.reasons.truncate(change.reasons);
+        let offer = self.offers.len();
+        self.offers.push(Offer {
+            node,
+            number,
+            other,
+            shared: 0,
+            refused: 0,
+        })?;
+        let _ = self.numbers.insert((node, number, other), offer)?;
+        Ok(offer)
+    }
+
+    // Whether a node must not be the successor that a class of another one asks for.
+    pub(crate) fn is_refused(&self, node: usize, number: usize, other: usize) -> bool {
+        match self.numbers.get(&(node, number, other)) {
+            Some(offer) => self.came(Fact::Refused(*offer)) > 0,
+            None => false,
+        }
+    }
+
+    // Takes an offer.
+    pub(crate) fn share(&mut self, offer: usize) -> Result<(), Memory> {
+        let since = self.trail.len().saturating_add(1);
+        if let Some(entry) = self.offers.get_mut(offer) {
+            entry.shared = since;
+        }
+        self.note(Event::Came(Fact::Shared(offer)), &[], Ground::Nothing)
+    }
+
+    // Refuses an offer.
+    pub(crate) fn refuse(
+        &mut self,
+        offer: usize,
+        reasons: &[Fact],
+        ground: Ground,
+    ) -> Result<(), Memory> {
+        if self.came(Fact::Refused(offer)) > 0 {
+            return Ok(());
+        }
+        let since = self.trail.len().saturating_add(1);
+        if let Some(entry) = self.offers.get_mut(offer) {
+            entry.refused = since;
+        }
+        let fact = Fact::Refused(offer);
+        self.note(Event::Came(fact), reasons, ground)?;
+        if self.came(Fact::Shared(offer)) > 0 {
+            return self.clash_of(&[fact, Fact::Shared(offer)], Ground::Nothing);
+        }
         Ok(())
     }
 
+    // Takes back all changes but the first ones.
+    pub(crate) fn undo(&mut self, length: usize) {
+        for _ in length..self.trail.len() {
+            if let Some(change) = self.trail.pop() {
+                match change.event {
+                    Event::Came(fact) => self.drop_fact(fact),
+                    Event::Made(node) => self.set_there(node, false),
+                }
+                self.reasons.truncate(change.reasons);
+            }
+        }
+    }
+
+    fn drop_fact(&mut self, fact: Fact) {
+        match fact {
+            Fact::Class(node, number) => self.drop_class(node, number),
+            Fact::Edge(_) => self.drop_edge(),
+            Fact::Shared(offer) => {
+                if let Some(entry) = self.offers.get_mut(offer) {
+                    entry.shared = 0;
+                }
+            }
+            Fact::Refused(offer) => {
+                if let Some(entry) = self.offers.get_mut(offer) {
+                    entry.refused = 0;
+                }
+            }
+        }
+    }
+
+    pub(crate) fn set_there(&mut self, node: usize, is_there: bool) {
+        if let Some(spot) = self.nodes.get_mut(node) {
+            spot.is_there = is_there;
+        }
+    }
+
     fn drop_class(&mut self, node: usize, number: usize) {
-        self.flip(node, number);
         if let Some(spot) = self.nodes.get_mut(node) {
             let _ = spot.label.pop();
+            if let Some(place) = spot.since.get_mut(number) {
+                *place = 0;
+            }
             spot.drop_demands(number);
         }
     }
@@ -354,27 +488,7 @@ impl Graph {
             if let Some(spot) = self.nodes.get_mut(link.to) {
                 let _ = spot.incoming.pop();
             }
-            if let Some(number) = link.source {
-                let _ = self.served.remove(&(link.from, number));
-            }
         }
-    }
-
-    fn drop_node(&mut self) {
-        if let Some(spot) = self.nodes.pop() {
-            let _ = self.shared.remove(spot.core.as_slice());
-        }
-    }
-
-    fn mend(&mut self, edge: usize) -> Result<(), Memory> {
-        if let Some(link) = self.edges.get_mut(edge) {
-            link.is_live = true;
-            if let Some(number) = link.source {
-                let from = link.from;
-                let _ = self.served.insert((from, number), edge)?;
-            }
-        }
-        Ok(())
     }
 }
 

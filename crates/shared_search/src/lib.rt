@@ -1,13 +1,17 @@
-//! A search for a small model in which successors that have to begin with the same classes are one node. What comes out is a
-//! proposal: whoever asks has to test it.
+//! A search for a small model, in which one node may stand for successors of many others, and for a small part of axioms that
+//! have no model. What comes out is a proposal: whoever asks has to test it.
 #![tactic(auto)]
 
 mod drawing;
 mod graph;
+mod learning;
+mod lessons;
+mod models;
 mod proposing;
 mod rules;
 mod searching;
+mod sharing;
 mod spreading;
 mod terms;
 
-pub use proposing::propose;
+pub use proposing::{Proposed, narrow, propose};

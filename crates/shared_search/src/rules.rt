@@ -1,31 +1,60 @@
 // What a search is told: the rules for classes of labels, and what the names' elements are in.
+use crate::lessons::Sources;
 use crate::terms::{Form, Terms, Way};
 use logic_terms::{Axiom, Axioms, Class, Classes, Knowledge, Role};
+use owl_eval::Interp;
 use std::alloc::Global;
-use std::collections::BTreeMap;
+use std::collections::{BTreeMap, BTreeSet};
 use wiki_base::{Memory, WordId};
 
-// An element of all these classes is in this one.
+// An element of all these classes is in this one, or there is none where no class is given, as the axiom at a place says.
 #[derive(Drop)]
 pub(crate) struct Rule {
     pub(crate) body: Vec<usize>,
-    pub(crate) head: usize,
+    pub(crate) head: Option<usize>,
+    pub(crate) source: usize,
+}
+
+// A class of a name's node, and the place of the axiom that says so.
+#[derive(Clone, Copy, Debug, PartialEq, Eq)]
+pub(crate) struct Seed {
+    pub(crate) node: usize,
+    pub(crate) number: usize,
+    pub(crate) source: usize,
+}
+
+// Two names' nodes that an axiom relates.
+#[derive(Clone, Copy, Debug, PartialEq, Eq)]
+pub(crate) struct Given {
+    pub(crate) from: usize,
+    pub(crate) way: Way,
+    pub(crate) to: usize,
+    pub(crate) source: usize,
 }
 
 #[derive(Drop)]
 pub(crate) struct Rules {
     pub(crate) terms: Terms,
     pub(crate) rules: Vec<Rule>,
-    // The classes that each element is in.
-    pub(crate) general: Vec<usize>,
+    // The classes that each element is in, each with the place of an axiom that says so.
+    pub(crate) general: Vec<(usize, usize)>,
     // The nodes of the names, and how many there are.
     nodes: BTreeMap<u32, usize>,
     pub(crate) roots: usize,
-    // The classes of names' nodes.
-    pub(crate) seeds: Vec<(usize, usize)>,
-    pub(crate) edges: Vec<(usize, Way, usize)>,
+    // Those of them that have to have an element.
+    pub(crate) there: BTreeSet<usize>,
+    // The classes of names' nodes, and what relates these.
+    pub(crate) seeds: Vec<Seed>,
+    pub(crate) edges: Vec<Given>,
     // The roles above a role.
     above: BTreeMap<Way, Vec<Way>>,
+    // The place of the axiom that is looked at, and how many there are.
+    source: usize,
+    pub(crate) sources: usize,
+    // The place of an axiom that tells a name from itself, if there is one.
+    pub(crate) false_difference: Option<usize>,
+    // The model that is kept, if one is.
+    pub(crate) model: Option<Interp>,
 }
 
 // A rule that is being made: what it asks for, and of what it gives one.
@@ -37,27 +66,70 @@ struct Sketch {
 
 impl Rules {
     // The rules of axioms; their names, roles and facts are those of the knowledge that they were absorbed into.
-    pub(crate) fn new(alloc: Global, k: &Knowledge, axioms: &Axioms) -> Result<Rules, Memory> {
+    pub(crate) fn new(
+        alloc: Global,
+        k: &Knowledge,
+        axioms: &Axioms,
+        model: Option<Interp>,
+        only: Option<&Sources>,
+    ) -> Result<Rules, Memory> {
         let mut rules = Rules {
             terms: Terms::new(alloc),
             rules: Vec::new(alloc),
             general: Vec::new(alloc),
             nodes: BTreeMap::new(alloc),
             roots: 0,
+            there: BTreeSet::new(alloc),
             seeds: Vec::new(alloc),
             edges: Vec::new(alloc),
             above: BTreeMap::new(alloc),
+            source: 0,
+            sources: axioms.len(),
+            false_difference: None,
+            model,
         };
         rules.take_names(k)?;
         rules.take_roles(k)?;
         for axiom in axioms.as_slice() {
-            if let Axiom::SubClass(below, above) = axiom {
-                rules.include(below, above)?;
+            if only.is_none_or(|sources| sources.has(rules.source)) {
+                rules.take(axiom)?;
+            }
+            rules.source = rules.source.saturating_add(1);
+        }
+        rules.complete(k)?;
+        match only {
+            Some(_) => rules.note_spoken_of()?,
+            None => rules.note_all()?,
+        }
+        Ok(rules)
+    }
+
+    fn note_all(&mut self) -> Result<(), Memory> {
+        for node in 0..self.roots {
+            let _ = self.there.insert(node)?;
+        }
+        Ok(())
+    }
+
+    // Notes the nodes of names of which something is said, or the first one.
+    fn note_spoken_of(&mut self) -> Result<(), Memory> {
+        for seed in &self.seeds {
+            let _ = self.there.insert(seed.node)?;
+        }
+        for given in &self.edges {
+            let _ = self.there.insert(given.from)?;
+            let _ = self.there.insert(given.to)?;
+        }
+        for number in 0..self.terms.len() {
+            if let Form::Value(_, name) = self.terms.form(number) {
+                let node = self.node(name);
+                let _ = self.there.insert(node)?;
             }
         }
-        rules.take_facts(k)?;
-        rules.complete(k)?;
-        Ok(rules)
+        if self.there.is_empty() {
+            let _ = self.there.insert(0)?;
+        }
+        Ok(())
     }
 
     // The node of a name.
@@ -106,21 +178,46 @@ impl Rules {
         Ok(())
     }
 
-    fn take_facts(&mut self, k: &Knowledge) -> Result<(), Memory> {
-        for entry in k.assertions() {
-            let number = self.terms.number_of(&entry.1)?;
-            self.seed(entry.0, number)?;
+    // Takes what an axiom says of classes and of names.
+    fn take(&mut self, axiom: &Axiom) -> Result<(), Memory> {
+        match axiom {
+            Axiom::SubClass(below, above) => self.include(below, above),
+            Axiom::Member(class, name) => {
+                let number = self.terms.number_of(class)?;
+                self.seed(*name, number)
+            }
+            Axiom::NotRelated(role, from, to) => {
+                let value = self.terms.number(Form::Value(Way::of(*role), to.0))?;
+                let number = self.terms.number(Form::Not(value))?;
+                self.seed(*from, number)
+            }
+            Axiom::Related(role, from, to) => {
+                let given = Given {
+                    from: self.node(from.0),
+                    way: Way::of(*role),
+                    to: self.node(to.0),
+                    source: self.source,
+                };
+                self.edges.push(given)?;
+                Ok(())
+            }
+            Axiom::Differ(one, other) => {
+                if self.node(one.0) == self.node(other.0) {
+                    self.false_difference = Some(self.source);
+                }
+                Ok(())
+            }
+            _ => Ok(()),
         }
-        for edge in k.edges() {
-            let (from, to) = (self.node(edge.1.0), self.node(edge.2.0));
-            self.edges.push((from, Way::of(edge.0), to))?;
-        }
-        Ok(())
     }
 
     fn seed(&mut self, name: WordId, number: usize) -> Result<(), Memory> {
         let node = self.node(name.0);
-        self.seeds.push((node, number))?;
+        self.seeds.push(Seed {
+            node,
+            number,
+            source: self.source,
+        })?;
         Ok(())
     }
 
@@ -288,20 +385,44 @@ impl Rules {
                 _ => left.push(*number)?,
             }
         }
-        let empty = Vec::new(self.terms.alloc);
-        let head = self.one_of(Sketch {
-            body: empty,
-            heads: left,
-        })?;
+        let head = if left.is_empty() {
+            None
+        } else {
+            let empty = Vec::new(self.terms.alloc);
+            Some(self.one_of(Sketch {
+                body: empty,
+                heads: left,
+            })?)
+        };
         if body.is_empty() {
-            self.general.push(head)?;
-            return Ok(());
+            return self.add_general(head);
         }
+        self.put_rule(body, head)
+    }
+
+    // Each element is in a class, or there is none.
+    fn add_general(&mut self, head: Option<usize>) -> Result<(), Memory> {
+        let number = match head {
+            Some(number) => number,
+            None => {
+                let thing = self.terms.number(Form::Thing)?;
+                self.terms.number(Form::Not(thing))?
+            }
+        };
+        self.general.push((number, self.source))?;
+        Ok(())
+    }
+
+    fn put_rule(&mut self, body: Vec<usize>, head: Option<usize>) -> Result<(), Memory> {
         let rule = self.rules.len();
         for number in &body {
             self.terms.add_rule(*number, rule)?;
         }
-        self.rules.push(Rule { body, head })?;
+        self.rules.push(Rule {
+            body,
+            head,
+            source: self.source,
+        })?;
         Ok(())
     }
 
@@ -312,21 +433,36 @@ impl Rules {
         }
     }
 
-    // Finds what classes ask of neighbours, and which unions a complement bears on.
+    // Finds what classes ask of neighbours, the complement of each, and which unions and rules a complement bears on.
     fn complete(&mut self, k: &Knowledge) -> Result<(), Memory> {
+        let _ = self.terms.number(Form::Thing)?;
+        self.deny_all()?;
+        let given = self.terms.len();
+        self.send_all(k, 0, given)?;
+        let end = self.terms.len();
+        self.send_all(k, given, end)?;
+        self.deny_all()?;
         for number in 0..self.terms.len() {
             for place in 0..self.terms.parts(number).len() {
                 self.watch(number, place)?;
             }
         }
-        let given = self.terms.len();
-        self.send_all(k, 0, given)?;
-        let end = self.terms.len();
-        self.send_all(k, given, end)?;
-        for number in 0..self.terms.len() {
-            if let Form::Not(_) = self.terms.form(number) {
-                let _ = self.terms.complement(number)?;
+        for place in 0..self.rules.len() {
+            if let Some(head) = self.head(place) {
+                let denial = self.terms.complement(head)?;
+                self.terms.add_opposed(denial, place)?;
             }
+        }
+        Ok(())
+    }
+
+    fn head(&self, rule: usize) -> Option<usize> {
+        self.rules.get(rule).and_then(|rule| rule.head)
+    }
+
+    fn deny_all(&mut self) -> Result<(), Memory> {
+        for number in 0..self.terms.len() {
+            let _ = self.terms.complement(number)?;
         }
         Ok(())
     }

@@ -1,110 +1,135 @@
-// The search: what follows comes first, then choices, and a clash goes back to the last choice that it rests on.
-use crate::graph::{Event, Fact, Graph};
+// The search: what follows comes first, then choices, and a clash teaches what can't hold.
+use crate::graph::{Clash, Event, Fact, Graph, Ground};
+use crate::learning::Finding;
+use crate::lessons::{Heed, Lessons, Sources};
 use crate::rules::Rules;
+use crate::sharing::Errand;
 use crate::terms::Form;
-use std::collections::BTreeSet;
+use logic_terms::Knowledge;
 use wiki_base::Memory;
 
-// A member of a union that was chosen.
-#[derive(Drop)]
-struct Choice {
-    node: usize,
-    union: usize,
-    // The member's place, and what the clashes of those before it rest on.
-    place: usize,
-    needs: BTreeSet<Fact>,
-    // What was there before: changes, errands and unions, and the union to go on with.
+// What was there before a choice: changes, errands and unions, and those to go on with. The union that is chosen of.
+#[derive(Clone, Copy, Debug, PartialEq, Eq)]
+struct Level {
     trail: usize,
     errands: usize,
     unions: usize,
+    next_errand: usize,
     next_union: usize,
+    union: usize,
 }
 
 #[derive(Drop)]
 pub(crate) struct Search {
     pub(crate) graph: Graph,
-    choices: Vec<Choice>,
+    lessons: Lessons,
+    levels: Vec<Level>,
     // How far changes, errands and unions were looked at.
     next: usize,
     next_errand: usize,
     next_union: usize,
+    // Of each union, how much it had to do with clashes, and the place of the member that was chosen last.
+    weights: Vec<u64>,
+    chosen: Vec<usize>,
+    gain: u64,
     clashes: u64,
+    // How many clashes end a round.
+    patience: u64,
     // How much was looked at.
     looks: u64,
 }
 
-// What a clash leaves.
-enum Back {
-    // Nothing: it rests on no choice.
-    Nothing,
-    // Going on with another member.
-    Going,
-    // A clash of these, since all members are tried.
-    Needs(BTreeSet<Fact>),
+// How a search ends.
+#[derive(Drop)]
+pub(crate) enum End {
+    // Without clash, and nothing is left to do.
+    Open,
+    // With a clash that rests on these axioms, and on no choice.
+    Shut(Sources),
+    Spent,
 }
 
-// After how many clashes nothing is proposed.
-const MOST_CLASHES: u64 = 100;
-
-// How many changes are kept at most, and how many bits the labels of all nodes take.
+// How many changes are kept at most, and how many numbers the labels of all nodes take.
 const MOST_CHANGES: usize = 500_000;
 
-const MOST_BITS: usize = 200_000_000;
+const MOST_NUMBERS: usize = 20_000_000;
+
+// How many unions are compared before one is chosen of.
+const MOST_COMPARED: usize = 256;
+
+const FIRST_PATIENCE: u64 = 64;
 
 impl Search {
     // Whether the labels of names alone take too much memory.
     pub(crate) fn is_beyond(rules: &Rules) -> bool {
-        rules.terms.len().saturating_mul(rules.roots) > MOST_BITS
+        rules.terms.len().saturating_mul(rules.roots) > MOST_NUMBERS
     }
 
     // A search that begins with the facts on names.
-    pub(crate) fn begun(rules: &Rules) -> Result<Search, Memory> {
+    pub(crate) fn begun(rules: &Rules, k: &Knowledge) -> Result<Search, Memory> {
         let alloc = rules.terms.alloc;
         let mut graph = Graph::new(alloc, &rules.terms, rules.roots)?;
-        for edge in &rules.edges {
-            let _ = graph.join(edge.0, edge.1, edge.2, None, &[])?;
+        for entry in k.names() {
+            graph.set_model(rules.node(entry.1.0), rules.element(entry.1.0));
+        }
+        for given in &rules.edges {
+            let ground = Ground::Axiom(given.source);
+            let _ = graph.join(given.from, given.way, given.to, &[], ground)?;
         }
         for seed in &rules.seeds {
-            graph.add(&rules.terms, seed.0, seed.1, &[])?;
+            let ground = Ground::Axiom(seed.source);
+            graph.add(&rules.terms, seed.node, seed.number, &[], ground)?;
         }
-        for node in 0..rules.roots {
-            for number in &rules.general {
-                graph.add(&rules.terms, node, *number, &[])?;
+        for node in rules.there.iter() {
+            graph.set_there(*node, true);
+            for class in &rules.general {
+                let ground = Ground::Axiom(class.1);
+                graph.add(&rules.terms, *node, class.0, &[], ground)?;
             }
+        }
+        let mut weights = Vec::new(alloc);
+        let mut chosen = Vec::new(alloc);
+        for _ in 0..rules.terms.len() {
+            weights.push(0)?;
+            chosen.push(usize::MAX)?;
         }
         Ok(Search {
             graph,
-            choices: Vec::new(alloc),
+            lessons: Lessons::new(alloc),
+            levels: Vec::new(alloc),
             next: 0,
             next_errand: 0,
             next_union: 0,
+            weights,
+            chosen,
+            gain: 1,
             clashes: 0,
+            patience: FIRST_PATIENCE,
             looks: 0,
         })
     }
 
-    // Whether the search ends without clash before it looked at so much.
-    pub(crate) fn is_done(&mut self, rules: &Rules, limit: u64) -> Result<bool, Memory> {
+    // How the search ends before it looked at so much.
+    pub(crate) fn end(&mut self, rules: &Rules, limit: u64) -> Result<End, Memory> {
         for _ in 0..limit {
             if self.looks > limit || self.is_large(rules) {
-                return Ok(false);
+                return Ok(End::Spent);
             }
-            if let Some(facts) = self.graph.clash.take() {
-                self.clashes = self.clashes.saturating_add(1);
-                if self.clashes > MOST_CLASHES || !self.goes_back(rules, facts)? {
-                    return Ok(false);
+            if let Some(clash) = self.graph.clash.take() {
+                if let Some(sources) = self.learn(rules, clash)? {
+                    return Ok(End::Shut(sources));
                 }
             } else if !self.goes_on(rules)? {
-                return Ok(true);
+                return Ok(End::Open);
             }
         }
-        Ok(false)
+        Ok(End::Spent)
     }
 
     // Whether the search takes more memory than a proposal is worth.
     fn is_large(&self, rules: &Rules) -> bool {
-        let bits = rules.terms.len().saturating_mul(self.graph.nodes.len());
-        self.graph.trail.len() > MOST_CHANGES || bits > MOST_BITS
+        let numbers = rules.terms.len().saturating_mul(self.graph.nodes.len());
+        self.graph.trail.len() > MOST_CHANGES || numbers > MOST_NUMBERS
     }
 
     // Counts what has to be looked at for a change.
@@ -118,10 +143,11 @@ impl Search {
                 };
                 edges.saturating_add(rules.terms.rules(number).len())
             }
-            Fact::Edge(edge) => match self.graph.live(edge) {
+            Fact::Edge(edge) => match self.graph.link(edge) {
                 Some(link) => self.graph.demands(link.to).len(),
                 None => 0,
             },
+            _ => 0,
         };
         self.looks = self.looks.saturating_add(looks as u64).saturating_add(1);
     }
@@ -131,198 +157,303 @@ impl Search {
         begin.saturating_add(self.graph.incoming(node).len())
     }
 
-    // Looks at the next change, errand or union, if there is one.
+    // Looks at the next change, union or errand, if there is one.
     fn goes_on(&mut self, rules: &Rules) -> Result<bool, Memory> {
         if let Some(change) = self.graph.trail.get(self.next).copied() {
             self.next = self.next.saturating_add(1);
-            if let Event::Came(fact) = change.event {
-                self.count(rules, fact);
-                self.graph.spread(rules, fact)?;
+            match change.event {
+                Event::Came(fact) => self.look_at(rules, fact)?,
+                Event::Made(node) => self.wake(node)?,
             }
+            return Ok(true);
+        }
+        if let Some((node, union)) = self.next_choice(rules) {
+            self.choose(rules, node, union)?;
             return Ok(true);
         }
         if let Some(errand) = self.graph.errands.get(self.next_errand).copied() {
-            self.next_errand = self.next_errand.saturating_add(1);
-            let demands = self.graph.demands(errand.0).len() as u64;
-            self.looks = self.looks.saturating_add(demands).saturating_add(1);
-            self.graph.serve(rules, errand.0, errand.1)?;
-            return Ok(true);
-        }
-        if let Some(union) = self.graph.unions.get(self.next_union).copied() {
-            if let Some(place) = self.open_from(rules, union.0, union.1, 0) {
-                if !self.is_settled(rules, union.0, union.1) {
-                    self.choose(rules, union.0, union.1, place)?;
-                }
+            self.looks = self.looks.saturating_add(1);
+            match self.graph.errand(rules, errand.0, errand.1) {
+                Some(found) => self.serve(rules, found)?,
+                None => self.next_errand = self.next_errand.saturating_add(1),
             }
-            self.next_union = self.next_union.saturating_add(1);
             return Ok(true);
         }
         Ok(false)
     }
 
-    // Whether a node has a member of a union, or lacks a class word of which one is the complement.
-    fn is_settled(&self, rules: &Rules, node: usize, union: usize) -> bool {
-        for part in rules.terms.parts(union) {
-            if self.graph.has(node, *part) {
-                return true;
-            }
-            if let Form::Not(inner) = rules.terms.form(*part) {
-                if is_word(rules, inner) && !self.graph.has(node, inner) {
-                    return true;
-                }
-            }
+    // Adds what follows at once from a fact.
+    fn look_at(&mut self, rules: &Rules, fact: Fact) -> Result<(), Memory> {
+        self.count(rules, fact);
+        match fact {
+            Fact::Class(node, number) => self.graph.spread_class(rules, node, number)?,
+            Fact::Edge(edge) => self.graph.spread_edge(rules, edge)?,
+            _ => {}
         }
-        false
+        self.heed(rules, fact)
     }
 
-    // The place, from one on, of a member that a node does not deny.
-    fn open_from(&self, rules: &Rules, node: usize, union: usize, start: usize) -> Option<usize> {
-        for (place, part) in rules.terms.parts(union).iter().enumerate() {
-            if place >= start && !self.graph.is_denied(rules, node, *part) {
-                return Some(place);
-            }
-        }
-        None
-    }
-
-    fn choose(
-        &mut self,
-        rules: &Rules,
-        node: usize,
-        union: usize,
-        place: usize,
-    ) -> Result<(), Memory> {
-        let choice = Choice {
-            node,
-            union,
-            place,
-            needs: BTreeSet::new(self.graph.alloc),
-            trail: self.graph.trail.len(),
-            errands: self.graph.errands.len(),
-            unions: self.graph.unions.len(),
-            next_union: self.next_union,
+    // What was known of a node before it stood for an element is to be looked at.
+    fn wake(&mut self, node: usize) -> Result<(), Memory> {
+        let Some(spot) = self.graph.nodes.get(node) else {
+            return Ok(());
         };
-        self.take(rules, choice)
-    }
-
-    // Adds the member that a choice is for.
-    fn take(&mut self, rules: &Rules, choice: Choice) -> Result<(), Memory> {
-        let node = choice.node;
-        let part = rules.terms.parts(choice.union).get(choice.place).copied();
-        self.choices.push(choice)?;
-        if let Some(number) = part {
-            self.graph.put(&rules.terms, node, number, &[], true)?;
+        for number in &spot.label {
+            self.graph.errands.push((node, *number))?;
+            self.graph.unions.push((node, *number))?;
         }
         Ok(())
     }
 
-    // Goes back from a clash of these facts to a choice that it rests on, and answers whether there is one.
-    fn goes_back(&mut self, rules: &Rules, facts: Vec<Fact>) -> Result<bool, Memory> {
-        let mut needs = BTreeSet::new(self.graph.alloc);
-        for fact in &facts {
-            let _ = needs.insert(*fact)?;
-        }
-        for _ in 0..=self.choices.len() {
-            match self.step_back(rules, needs)? {
-                Back::Nothing => return Ok(false),
-                Back::Going => return Ok(true),
-                Back::Needs(more) => needs = more,
-            }
-        }
-        Ok(false)
-    }
-
-    // Takes changes back up to a choice that these facts rest on.
-    fn step_back(&mut self, rules: &Rules, facts: BTreeSet<Fact>) -> Result<Back, Memory> {
-        let mut needs = facts;
-        for _ in 0..self.graph.trail.len() {
-            if needs.is_empty() {
-                return Ok(Back::Nothing);
-            }
-            let Some(change) = self.graph.trail.pop() else {
-                return Ok(Back::Nothing);
+    // Adds what follows from a fact by lessons.
+    fn heed(&mut self, rules: &Rules, fact: Fact) -> Result<(), Memory> {
+        let mut place = 0_usize;
+        for _ in 0..self.lessons.count(fact) {
+            let Some(number) = self.lessons.watching(fact, place) else {
+                return Ok(());
             };
-            let is_needed = match change.event {
-                Event::Came(fact) => needs.remove(&fact),
-                _ => false,
-            };
-            if is_needed {
-                for place in change.reasons..self.graph.reasons.len() {
-                    if let Some(reason) = self.graph.reasons.get(place).copied() {
-                        let _ = needs.insert(reason)?;
-                    }
-                }
-            }
-            self.graph.undo(change)?;
-            if change.is_chosen {
-                if let Some(choice) = self.choices.pop() {
-                    self.restore(&choice);
-                    if is_needed {
-                        return self.try_next(rules, choice, needs);
-                    }
+            self.looks = self.looks.saturating_add(1);
+            match self.lessons.heed(&self.graph, rules, fact, place)? {
+                Heed::Moved => {}
+                Heed::Kept => place = place.saturating_add(1),
+                Heed::Denies(other) => {
+                    place = place.saturating_add(1);
+                    self.deny(rules, number, other)?;
                 }
             }
         }
-        Ok(Back::Nothing)
+        Ok(())
     }
 
-    // Goes on where a choice was made.
-    fn restore(&mut self, choice: &Choice) {
-        self.next = choice.trail;
-        self.next_errand = choice.errands;
-        self.next_union = choice.next_union;
-        self.graph.errands.truncate(choice.errands);
-        self.graph.unions.truncate(choice.unions);
-    }
-
-    // Takes the next member of a union, where the one that was chosen clashes because of these facts.
-    fn try_next(
-        &mut self,
-        rules: &Rules,
-        choice: Choice,
-        needs: BTreeSet<Fact>,
-    ) -> Result<Back, Memory> {
-        let mut next = choice;
-        let mut more = needs;
-        next.needs.append(&mut more)?;
-        let start = next.place.saturating_add(1);
-        let Some(place) = self.open_from(rules, next.node, next.union, start) else {
-            return Ok(Back::Needs(self.all_needs(rules, next)?));
+    // Denies a fact of a lesson, whose others hold.
+    fn deny(&mut self, rules: &Rules, number: usize, denied: Fact) -> Result<(), Memory> {
+        let Some(lesson) = self.lessons.list.get(number) else {
+            return Ok(());
         };
-        let later = place.saturating_add(1);
-        if self
-            .open_from(rules, next.node, next.union, later)
-            .is_some()
-        {
-            next.place = place;
-            self.take(rules, next)?;
-            return Ok(Back::Going);
+        let ground = Ground::Lesson(number);
+        if self.graph.came(denied) > 0 {
+            return self.graph.clash_of(lesson.facts.as_slice(), ground);
         }
-        let node = next.node;
-        let part = rules.terms.parts(next.union).get(place).copied();
-        let reasons = self.all_needs(rules, next)?;
-        let mut causes = Vec::new(self.graph.alloc);
-        for reason in reasons.iter() {
-            causes.push(*reason)?;
+        let mut reasons = Vec::new(self.graph.alloc);
+        for fact in &lesson.facts {
+            if *fact != denied {
+                reasons.push(*fact)?;
+            }
         }
-        if let Some(number) = part {
-            self.graph
-                .add(&rules.terms, node, number, causes.as_slice())?;
+        match denied {
+            Fact::Class(node, number) => match rules.terms.denial(number) {
+                Some(denial) => {
+                    self.graph
+                        .add(&rules.terms, node, denial, reasons.as_slice(), ground)
+                }
+                None => Ok(()),
+            },
+            Fact::Shared(offer) => self.graph.refuse(offer, reasons.as_slice(), ground),
+            _ => Ok(()),
         }
-        Ok(Back::Going)
     }
 
-    // What a union's clash rests on, where the members before a place clash and the others are denied.
-    fn all_needs(&self, rules: &Rules, choice: Choice) -> Result<BTreeSet<Fact>, Memory> {
-        let mut denials = Vec::new(self.graph.alloc);
-        self.graph
-            .add_denials(rules, choice.node, choice.union, &mut denials)?;
-        let Choice { needs, .. } = choice;
-        let mut all = needs;
-        for denial in &denials {
-            let _ = all.insert(*denial)?;
+    // Whether a node is gone, has a member of a union, or lacks a class word of which one is the complement.
+    fn is_settled(&self, rules: &Rules, node: usize, union: usize) -> bool {
+        if !self.graph.is_there(node) {
+            return true;
         }
-        Ok(all)
+        let parts = rules.terms.parts(union);
+        match rules.terms.form(union) {
+            Form::Or(_) => parts.iter().any(|part| self.graph.has(node, *part)
+                || self.is_free(rules, node, *part)),
+            _ => true,
+        }
+    }
+
+    // Whether a class is the complement of a class word that a node lacks.
+    fn is_free(&self, rules: &Rules, node: usize, number: usize) -> bool {
+        match rules.terms.form(number) {
+            Form::Not(inner) => is_word(rules, inner) && !self.graph.has(node, inner),
+            _ => false,
+        }
+    }
+
+    // The union of a node to choose of, if there is one.
+    fn next_choice(&mut self, rules: &Rules) -> Option<(usize, usize)> {
+        for _ in self.next_union..self.graph.unions.len() {
+            let (node, union) = self.graph.unions.get(self.next_union).copied()?;
+            if !self.is_settled(rules, node, union) {
+                break;
+            }
+            self.next_union = self.next_union.saturating_add(1);
+        }
+        let mut best = None;
+        let mut most = 0;
+        for place in self.next_union..self.graph.unions.len() {
+            if place.saturating_sub(self.next_union) > MOST_COMPARED {
+                return best;
+            }
+            let (node, union) = self.graph.unions.get(place).copied()?;
+            let weight = self.weight(union);
+            if (best.is_none() || weight > most) && !self.is_settled(rules, node, union) {
+                best = Some((node, union));
+                most = weight;
+            }
+        }
+        best
+    }
+
+    fn weight(&self, union: usize) -> u64 {
+        self.weights.get(union).copied().unwrap_or(0)
+    }
+
+    fn choose(&mut self, rules: &Rules, node: usize, union: usize) -> Result<(), Memory> {
+        let Some(place) = self.member(rules, node, union) else {
+            return Ok(());
+        };
+        let Some(number) = rules.terms.parts(union).get(place).copied() else {
+            return Ok(());
+        };
+        if let Some(last) = self.chosen.get_mut(union) {
+            *last = place;
+        }
+        self.open(union)?;
+        self.graph
+            .add(&rules.terms, node, number, &[], Ground::Nothing)
+    }
+
+    // The place of the member to choose: one that the kept model has, or the one that was chosen last, or the first.
+    fn member(&self, rules: &Rules, node: usize, union: usize) -> Option<usize> {
+        let parts = rules.terms.parts(union);
+        if let Some(element) = self.graph.model_of(node) {
+            for (place, part) in parts.iter().enumerate() {
+                if !self.graph.is_denied(rules, node, *part) && rules.is_in(*part, element) {
+                    return Some(place);
+                }
+            }
+        }
+        let last = self.chosen.get(union).copied().unwrap_or(usize::MAX);
+        match parts.get(last) {
+            Some(part) if !self.graph.is_denied(rules, node, *part) => Some(last),
+            _ => parts
+                .iter()
+                .position(|part| !self.graph.is_denied(rules, node, *part)),
+        }
+    }
+
+    // Notes where a choice is made.
+    fn open(&mut self, union: usize) -> Result<(), Memory> {
+        self.levels.push(Level {
+            trail: self.graph.trail.len(),
+            errands: self.graph.errands.len(),
+            unions: self.graph.unions.len(),
+            next_errand: self.next_errand,
+            next_union: self.next_union,
+            union,
+        })?;
+        Ok(())
+    }
+
+    // Gives a node the successor that one of its classes asks for.
+    fn serve(&mut self, rules: &Rules, errand: Errand) -> Result<(), Memory> {
+        let nodes = self.graph.nodes.len() as u64;
+        self.looks = self.looks.saturating_add(nodes);
+        match self.graph.best(rules, errand)? {
+            Some(other) => {
+                let offer = self.graph.offer(errand.node, errand.number, other)?;
+                self.open(usize::MAX)?;
+                self.graph.share(offer)?;
+                let reasons = [Fact::Class(errand.node, errand.number), Fact::Shared(offer)];
+                self.graph.give(rules, errand, other, &reasons)
+            }
+            None => {
+                let _ = self.graph.give_own(rules, errand)?;
+                Ok(())
+            }
+        }
+    }
+
+    // Learns of a clash and goes back; where it rests on no choice, answers the axioms that it rests on.
+    fn learn(&mut self, rules: &Rules, clash: Clash) -> Result<Option<Sources>, Memory> {
+        let mut choices = Vec::new(self.graph.alloc);
+        for level in &self.levels {
+            choices.push(level.trail)?;
+        }
+        let mut seen = Vec::new(self.graph.alloc);
+        let found = self.graph.traced(
+            &self.lessons,
+            &clash,
+            choices.as_slice(),
+            rules.sources,
+            &mut seen,
+        )?;
+        match found {
+            Finding::Whole(sources) => Ok(Some(sources)),
+            Finding::Lesson(lesson) => {
+                self.weigh(rules, seen.as_slice());
+                let level = self.level_for(lesson.facts.as_slice(), choices.as_slice());
+                let first = lesson.facts.first().copied();
+                let number = self.lessons.put(lesson)?;
+                self.clashes = self.clashes.saturating_add(1);
+                self.back_to(level);
+                if let Some(fact) = first {
+                    self.deny(rules, number, fact)?;
+                }
+                self.rest();
+                Ok(None)
+            }
+        }
+    }
+
+    // How many choices the facts behind the first one rest on.
+    fn level_for(&self, facts: &[Fact], choices: &[usize]) -> usize {
+        let mut last = 0;
+        for fact in facts.iter().skip(1) {
+            last = last.max(self.graph.came(*fact));
+        }
+        choices.partition_point(|choice| *choice < last)
+    }
+
+    // Unions that had to do with a clash count for more.
+    fn weigh(&mut self, rules: &Rules, seen: &[Fact]) {
+        for fact in seen {
+            if let Fact::Class(_, number) = fact {
+                if let Form::Or(_) = rules.terms.form(*number) {
+                    self.add_weight(*number);
+                }
+            }
+        }
+        if let Some(level) = self.levels.last().copied() {
+            self.add_weight(level.union);
+        }
+        self.gain = self.gain.saturating_add(self.gain / 16).saturating_add(1);
+    }
+
+    fn add_weight(&mut self, union: usize) {
+        let gain = self.gain;
+        if let Some(weight) = self.weights.get_mut(union) {
+            *weight = weight.saturating_add(gain);
+        }
+    }
+
+    // Goes back to where so many choices were made.
+    fn back_to(&mut self, count: usize) {
+        if let Some(level) = self.levels.get(count).copied() {
+            self.graph.undo(level.trail);
+            self.graph.errands.truncate(level.errands);
+            self.graph.unions.truncate(level.unions);
+            self.next = level.trail;
+            self.next_errand = level.next_errand;
+            self.next_union = level.next_union;
+            self.levels.truncate(count);
+        }
+    }
+
+    // Ends a round after many clashes.
+    fn rest(&mut self) {
+        if self.clashes >= self.patience && self.graph.clash.is_none() {
+            self.patience = self
+                .clashes
+                .saturating_add(self.clashes / 2)
+                .saturating_add(FIRST_PATIENCE);
+            self.back_to(0);
+        }
     }
 }
 

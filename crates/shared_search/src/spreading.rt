@@ -1,37 +1,35 @@
-// What follows from a class of a node, from an edge, and from a class that asks for a successor.
-use crate::graph::{Fact, Graph, Link, is_denied_value};
+// What follows from a class of a node, and from an edge.
+use crate::graph::{Fact, Graph, Ground, is_denied_value};
 use crate::rules::{Rule, Rules};
 use crate::terms::{Form, Way};
-use std::collections::BTreeSet;
 use wiki_base::Memory;
 
 impl Graph {
-    // Adds what follows at once from what came.
-    pub(crate) fn spread(&mut self, rules: &Rules, fact: Fact) -> Result<(), Memory> {
-        match fact {
-            Fact::Class(node, number) => self.spread_class(rules, node, number),
-            Fact::Edge(edge) => self.spread_edge(rules, edge),
-        }
-    }
-
-    fn spread_class(&mut self, rules: &Rules, node: usize, number: usize) -> Result<(), Memory> {
+    // Adds what follows at once from a class of a node.
+    pub(crate) fn spread_class(
+        &mut self,
+        rules: &Rules,
+        node: usize,
+        number: usize,
+    ) -> Result<(), Memory> {
         let terms = &rules.terms;
         let reason = [Fact::Class(node, number)];
         for place in terms.rules(number) {
-            if let Some(rule) = rules.rules.get(*place) {
-                self.apply(rules, node, rule)?;
-            }
+            self.apply_at(rules, node, *place)?;
+        }
+        for place in terms.opposed(number) {
+            self.apply_at(rules, node, *place)?;
         }
         match terms.form(number) {
             Form::And(_) => {
                 for part in terms.parts(number) {
-                    self.add(terms, node, *part, &reason)?;
+                    self.add(terms, node, *part, &reason, Ground::Nothing)?;
                 }
             }
             Form::Or(_) => self.weigh(rules, node, number)?,
             Form::Some(_, _) => self.errands.push((node, number))?,
             Form::Value(way, name) => {
-                let _ = self.join(node, way, rules.node(name), None, &reason)?;
+                let _ = self.join(node, way, rules.node(name), &reason, Ground::Nothing)?;
             }
             _ => {}
         }
@@ -49,21 +47,93 @@ impl Graph {
         Ok(())
     }
 
-    // Gives what a rule gives, where a node has all that it asks for.
+    fn apply_at(&mut self, rules: &Rules, node: usize, place: usize) -> Result<(), Memory> {
+        match rules.rules.get(place) {
+            Some(rule) => self.apply(rules, node, rule),
+            None => Ok(()),
+        }
+    }
+
+    // Gives what a rule gives where a node has all that it asks for, and denies the one class that is missing where the node has
+    // the complement of what the rule gives.
     fn apply(&mut self, rules: &Rules, node: usize, rule: &Rule) -> Result<(), Memory> {
+        let mut missing = None;
         for number in &rule.body {
             if !self.has(node, *number) {
-                return Ok(());
+                if missing.is_some() {
+                    return Ok(());
+                }
+                missing = Some(*number);
             }
         }
-        if self.has(node, rule.head) {
+        let denial = rule.head.and_then(|head| rules.terms.denial(head));
+        let is_shut = match denial {
+            Some(against) => self.has(node, against),
+            None => true,
+        };
+        match (missing, rule.head) {
+            (None, Some(head)) => self.conclude(rules, node, rule, head),
+            (None, None) => {
+                let reasons = self.reasons_at(node, rule, None, None)?;
+                self.clash_of(reasons.as_slice(), Ground::Axiom(rule.source))
+            }
+            (Some(open), _) if is_shut => self.deny(rules, node, rule, open, denial),
+            _ => Ok(()),
+        }
+    }
+
+    fn conclude(
+        &mut self,
+        rules: &Rules,
+        node: usize,
+        rule: &Rule,
+        head: usize,
+    ) -> Result<(), Memory> {
+        if self.has(node, head) {
             return Ok(());
         }
+        let reasons = self.reasons_at(node, rule, None, None)?;
+        let ground = Ground::Axiom(rule.source);
+        self.add(&rules.terms, node, head, reasons.as_slice(), ground)
+    }
+
+    fn deny(
+        &mut self,
+        rules: &Rules,
+        node: usize,
+        rule: &Rule,
+        open: usize,
+        denial: Option<usize>,
+    ) -> Result<(), Memory> {
+        let Some(against) = rules.terms.denial(open) else {
+            return Ok(());
+        };
+        if self.has(node, against) {
+            return Ok(());
+        }
+        let reasons = self.reasons_at(node, rule, Some(open), denial)?;
+        let ground = Ground::Axiom(rule.source);
+        self.add(&rules.terms, node, against, reasons.as_slice(), ground)
+    }
+
+    // What a rule asks for at a node, but one, and one class more.
+    fn reasons_at(
+        &self,
+        node: usize,
+        rule: &Rule,
+        but: Option<usize>,
+        more: Option<usize>,
+    ) -> Result<Vec<Fact>, Memory> {
         let mut reasons = Vec::new(self.alloc);
         for number in &rule.body {
-            reasons.push(Fact::Class(node, *number))?;
+            if but != Some(*number) {
+                reasons.push(Fact::Class(node, *number))?;
+            }
         }
-        self.add(&rules.terms, node, rule.head, reasons.as_slice())
+        if let Some(number) = more {
+            reasons.push(Fact::Class(node, number))?;
+        }
+        Ok(reasons)
     }
 
     // Looks at a union: one member that is left is added, and a choice among several is kept for later.
@@ -87,9 +157,9 @@ impl Graph {
         let mut reasons = Vec::new(self.alloc);
         self.add_denials(rules, node, union, &mut reasons)?;
         if open == 0 {
-            return self.clash_of(reasons.as_slice());
+            return self.clash_of(reasons.as_slice(), Ground::Nothing);
         }
-        self.add(terms, node, last, reasons.as_slice())
+        self.add(terms, node, last, reasons.as_slice(), Ground::Nothing)
     }
 
     // Whether a node has the complement of a class.
@@ -101,7 +171,7 @@ impl Graph {
     }
 
     // Adds to reasons a union of a node, and the complements of its members that the node has.
-    pub(crate) fn add_denials(
+    fn add_denials(
         &self,
         rules: &Rules,
         node: usize,
@@ -130,19 +200,18 @@ impl Graph {
     ) -> Result<(), Memory> {
         for place in 0..self.outgoing(node).len() {
             if let Some(edge) = self.outgoing(node).get(place).copied() {
-                if let Some(link) = self.live(edge) {
-                    if rules.is_below(link.way, way) && !self.has(link.to, part) {
-                        self.send_on(rules, number, edge, link, part)?;
+                if let Some(link) = self.link(edge) {
+                    if rules.is_below(link.way, way) {
+                        self.send_to(rules, node, number, edge, link.to, part)?;
                     }
                 }
             }
         }
         for place in 0..self.incoming(node).len() {
             if let Some(edge) = self.incoming(node).get(place).copied() {
-                if let Some(link) = self.live(edge) {
+                if let Some(link) = self.link(edge) {
                     if rules.is_below(link.way.inverse(), way) {
-                        let reasons = [Fact::Class(node, number), Fact::Edge(edge)];
-                        self.add(&rules.terms, link.from, part, &reasons)?;
+                        self.send_to(rules, node, number, edge, link.from, part)?;
                     }
                 }
             }
@@ -150,38 +219,27 @@ impl Graph {
         Ok(())
     }
 
-    // Adds a class to a name's node at the end of an edge, or has another shared node looked for.
-    fn send_on(
+    fn send_to(
         &mut self,
         rules: &Rules,
+        node: usize,
         number: usize,
         edge: usize,
-        link: Link,
+        other: usize,
         part: usize,
     ) -> Result<(), Memory> {
-        match link.source {
-            Some(source) => {
-                self.errands.push((link.from, source))?;
-                Ok(())
-            }
-            None => {
-                let reasons = [Fact::Class(link.from, number), Fact::Edge(edge)];
-                self.add(&rules.terms, link.to, part, &reasons)
-            }
-        }
+        let reasons = [Fact::Class(node, number), Fact::Edge(edge)];
+        self.add(&rules.terms, other, part, &reasons, Ground::Nothing)
     }
 
-    fn spread_edge(&mut self, rules: &Rules, edge: usize) -> Result<(), Memory> {
-        let Some(link) = self.live(edge) else {
+    // Adds what follows at once from an edge.
+    pub(crate) fn spread_edge(&mut self, rules: &Rules, edge: usize) -> Result<(), Memory> {
+        let Some(link) = self.link(edge) else {
             return Ok(());
         };
-        if link.source.is_none() {
-            self.pass(rules, edge, link.from, link.way, link.to)?;
-            self.test_values(rules, link.from)?;
-        }
-        if link.from < rules.roots {
-            self.test_values(rules, link.to)?;
-        }
+        self.test_values(rules, edge, link.from, link.way, link.to)?;
+        self.test_values(rules, edge, link.to, link.way.inverse(), link.from)?;
+        self.pass(rules, edge, link.from, link.way, link.to)?;
         self.pass(rules, edge, link.to, link.way.inverse(), link.from)
     }
 
@@ -200,17 +258,28 @@ impl Graph {
                 let is_meant = demand.way == way || above.contains(&demand.way);
                 if is_meant && !self.has(to, demand.part) {
                     let reasons = [Fact::Class(from, demand.number), Fact::Edge(edge)];
-                    self.add(&rules.terms, to, demand.part, &reasons)?;
+                    self.add(&rules.terms, to, demand.part, &reasons, Ground::Nothing)?;
                 }
             }
         }
         Ok(())
     }
 
-    fn test_values(&mut self, rules: &Rules, node: usize) -> Result<(), Memory> {
+    // Finds the clash of an edge with the complement of a value that one of its nodes has.
+    fn test_values(
+        &mut self,
+        rules: &Rules,
+        edge: usize,
+        node: usize,
+        way: Way,
+        other: usize,
+    ) -> Result<(), Memory> {
         for place in 0..self.denied(node).len() {
             if let Some(number) = self.denied(node).get(place).copied() {
-                self.test_value(rules, node, number)?;
+                if is_value(rules, number, way, other) {
+                    let facts = [Fact::Class(node, number), Fact::Edge(edge)];
+                    return self.clash_of(&facts, Ground::Nothing);
+                }
             }
         }
         Ok(())
@@ -222,22 +291,23 @@ impl Graph {
             return Ok(());
         };
         if let Some(edge) = self.edge_by(rules, node, way, other) {
-            return self.clash_of(&[Fact::Class(node, number), Fact::Edge(edge)]);
+            let facts = [Fact::Class(node, number), Fact::Edge(edge)];
+            return self.clash_of(&facts, Ground::Nothing);
         }
         Ok(())
     }
 
-    // A live edge that makes one node a neighbour of another by a role.
+    // An edge that makes one node a neighbour of another by a role.
     fn edge_by(&self, rules: &Rules, node: usize, way: Way, other: usize) -> Option<usize> {
         for edge in self.outgoing(node) {
-            if let Some(link) = self.live(*edge) {
+            if let Some(link) = self.link(*edge) {
                 if link.to == other && rules.is_below(link.way, way) {
                     return Some(*edge);
                 }
             }
         }
         for edge in self.incoming(node) {
-            if let Some(link) = self.live(*edge) {
+            if let Some(link) = self.link(*edge) {
                 if link.from == other && rules.is_below(link.way.inverse(), way) {
                     return Some(*edge);
                 }
@@ -245,140 +315,23 @@ impl Graph {
         }
         None
     }
-
-    // Finds a successor for a class of a node that asks for one.
-    pub(crate) fn serve(
-        &mut self,
-        rules: &Rules,
-        node: usize,
-        number: usize,
-    ) -> Result<(), Memory> {
-        let Form::Some(way, part) = rules.terms.form(number) else {
-            return Ok(());
-        };
-        let mut reasons = Vec::new(self.alloc);
-        let core = self.wanted(rules, node, number, way, part, &mut reasons)?;
-        let served = self.served(node, number);
-        match served {
-            Some(edge) => {
-                if self.has_all(self.end_of(edge), core.as_slice()) {
-                    return Ok(());
-                }
-                self.cut(edge)?;
-            }
-            None => {
-                if self.has_named(rules, node, way, part) {
-                    return Ok(());
-                }
-            }
-        }
-        self.give(
-            rules,
-            node,
-            number,
-            way,
-            core.as_slice(),
-            reasons.as_slice(),
-        )
-    }
-
-    // Relates a node to the shared one that begins with these classes.
-    fn give(
-        &mut self,
-        rules: &Rules,
-        node: usize,
-        number: usize,
-        way: Way,
-        core: &[usize],
-        reasons: &[Fact],
-    ) -> Result<(), Memory> {
-        if let Some(known) = self.shared(core) {
-            let _ = self.join(node, way, known, Some(number), reasons)?;
-            return Ok(());
-        }
-        let made = self.make(core)?;
-        let edge = self.join(node, way, made, Some(number), reasons)?;
-        for class in core {
-            self.add(&rules.terms, made, *class, &[Fact::Edge(edge)])?;
-        }
-        for class in &rules.general {
-            self.add(&rules.terms, made, *class, &[])?;
-        }
-        Ok(())
-    }
-
-    fn end_of(&self, edge: usize) -> usize {
-        match self.edges.get(edge) {
-            Some(link) => link.to,
-            None => 0,
-        }
-    }
-
-    fn has_all(&self, node: usize, classes: &[usize]) -> bool {
-        classes.iter().all(|class| self.has(node, *class))
-    }
-
-    // The classes that a successor of a node has to have, in order, and why.
-    fn wanted(
-        &self,
-        rules: &Rules,
-        node: usize,
-        number: usize,
-        way: Way,
-        part: usize,
-        reasons: &mut Vec<Fact>,
-    ) -> Result<Vec<usize>, Memory> {
-        let above = rules.above(way);
-        let mut classes = BTreeSet::new(self.alloc);
-        let _ = classes.insert(part)?;
-        reasons.push(Fact::Class(node, number))?;
-        for demand in self.demands(node) {
-            let is_meant = demand.way == way || above.contains(&demand.way);
-            if is_meant && classes.insert(demand.part)? {
-                reasons.push(Fact::Class(node, demand.number))?;
-            }
-        }
-        let mut core = Vec::new(self.alloc);
-        for class in classes.iter() {
-            core.push(*class)?;
-        }
-        Ok(core)
-    }
-
-    // Whether a name's node is a neighbour by a role and is in a class.
-    fn has_named(&self, rules: &Rules, node: usize, way: Way, part: usize) -> bool {
-        for edge in self.outgoing(node) {
-            if let Some(link) = self.live(*edge) {
-                if link.source.is_none()
-                    && rules.is_below(link.way, way)
-                    && self.has(link.to, part)
-                {
-                    return true;
-                }
-            }
-        }
-        for edge in self.incoming(node) {
-            if let Some(link) = self.live(*edge) {
-                if link.source.is_none()
-                    && link.from < rules.roots
-                    && rules.is_below(link.way.inverse(), way)
-                    && self.has(link.from, part)
-                {
-                    return true;
-                }
-            }
-        }
-        false
-    }
 }
 
 // The role and the node of a value that a class is the complement of.
-fn denied_value(rules: &Rules, number: usize) -> Option<(Way, usize)> {
+pub(crate) fn denied_value(rules: &Rules, number: usize) -> Option<(Way, usize)> {
     match rules.terms.form(number) {
         Form::Not(inner) => match rules.terms.form(inner) {
             Form::Value(way, name) => Some((way, rules.node(name))),
             _ => None,
         },
         _ => None,
+    }
+}
+
+// Whether a class is the complement of a value that a node by this role is.
+pub(crate) fn is_value(rules: &Rules, number: usize, way: Way, other: usize) -> bool {
+    match denied_value(rules, number) {
+        Some((denied, node)) => node == other && rules.is_below(way, denied),
+        None => false,
     }
 }

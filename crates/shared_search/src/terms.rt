@@ -27,7 +27,7 @@ impl Way {
     }
 }
 
-// A class by the numbers of its parts. The members of an intersection or a union are a chain of cells.
+// A class by the numbers of its parts; of an intersection or a union by the number of the chain of its members.
 #[derive(Clone, Copy, Debug, PartialEq, Eq, PartialOrd, Ord)]
 pub(crate) enum Form {
     Thing,
@@ -40,8 +40,6 @@ pub(crate) enum Form {
     Some(Way, usize),
     All(Way, usize),
     Value(Way, u32),
-    End,
-    Cell(usize, usize),
 }
 
 // What is known of a class.
@@ -54,8 +52,9 @@ pub(crate) struct Term {
     pub(crate) denial: Option<usize>,
     // The unions of which this is the complement of a member.
     pub(crate) watchers: Vec<usize>,
-    // The rules that ask for it.
+    // The rules that ask for it, and those that give its complement.
     pub(crate) rules: Vec<usize>,
+    pub(crate) opposed: Vec<usize>,
     // What an element of it asks of its neighbours.
     pub(crate) sent: Vec<(Way, usize)>,
 }
@@ -65,6 +64,8 @@ pub(crate) struct Term {
 pub(crate) struct Terms {
     pub(crate) alloc: Global,
     numbers: BTreeMap<Form, usize>,
+    // The chains of members, by the last member and the chain before it; the empty chain is 0.
+    chains: BTreeMap<(usize, usize), usize>,
     entries: Vec<Term>,
 }
 
@@ -73,6 +74,7 @@ impl Terms {
         Terms {
             alloc,
             numbers: BTreeMap::new(alloc),
+            chains: BTreeMap::new(alloc),
             entries: Vec::new(alloc),
         }
     }
@@ -84,7 +86,7 @@ impl Terms {
     pub(crate) fn form(&self, number: usize) -> Form {
         match self.entries.get(number) {
             Some(term) => term.form,
-            None => Form::End,
+            None => Form::Thing,
         }
     }
 
@@ -105,6 +107,13 @@ impl Terms {
     pub(crate) fn rules(&self, number: usize) -> &[usize] {
         match self.entries.get(number) {
             Some(term) => term.rules.as_slice(),
+            None => &[],
+        }
+    }
+
+    pub(crate) fn opposed(&self, number: usize) -> &[usize] {
+        match self.entries.get(number) {
+            Some(term) => term.opposed.as_slice(),
             None => &[],
         }
     }
@@ -148,6 +157,7 @@ impl Terms {
             denial: None,
             watchers: Vec::new(self.alloc),
             rules: Vec::new(self.alloc),
+            opposed: Vec::new(self.alloc),
             sent: Vec::new(self.alloc),
         })?;
         let _ = self.numbers.insert(form, number)?;
@@ -194,26 +204,67 @@ impl Terms {
         Ok(numbers)
     }
 
+    // The number of a chain of these members.
     fn chain(&mut self, members: &[usize]) -> Result<usize, Memory> {
-        let mut chain = self.number(Form::End)?;
-        for member in members.iter().rev() {
-            chain = self.number(Form::Cell(*member, chain))?;
+        let mut chain = 0;
+        for member in members {
+            let cell = (*member, chain);
+            chain = match self.chains.get(&cell) {
+                Some(known) => *known,
+                None => {
+                    let next = self.chains.len().saturating_add(1);
+                    let _ = self.chains.insert(cell, next)?;
+                    next
+                }
+            };
         }
         Ok(chain)
     }
 
     pub(crate) fn intersection(&mut self, members: Vec<usize>) -> Result<usize, Memory> {
-        let chain = self.chain(members.as_slice())?;
+        let parts = self.flat(members.as_slice(), false)?;
+        if let Some(only) = parts.first().copied() {
+            if parts.len() == 1 {
+                return Ok(only);
+            }
+        }
+        let chain = self.chain(parts.as_slice())?;
         let number = self.number(Form::And(chain))?;
-        self.set_parts(number, members);
+        self.set_parts(number, parts);
         Ok(number)
     }
 
     pub(crate) fn union(&mut self, members: Vec<usize>) -> Result<usize, Memory> {
-        let chain = self.chain(members.as_slice())?;
+        let parts = self.flat(members.as_slice(), true)?;
+        if let Some(only) = parts.first().copied() {
+            if parts.len() == 1 {
+                return Ok(only);
+            }
+        }
+        let chain = self.chain(parts.as_slice())?;
         let number = self.number(Form::Or(chain))?;
-        self.set_parts(number, members);
+        self.set_parts(number, parts);
         Ok(number)
+    }
+
+    // These members, each once, with the parts of those that are unions, or intersections, in their places.
+    fn flat(&self, members: &[usize], is_union: bool) -> Result<Vec<usize>, Memory> {
+        let mut found = Vec::new(self.alloc);
+        for member in members {
+            let is_nested = match self.form(*member) {
+                Form::Or(_) => is_union,
+                Form::And(_) => !is_union,
+                _ => false,
+            };
+            if is_nested {
+                for part in self.parts(*member) {
+                    add_once(&mut found, *part)?;
+                }
+            } else {
+                add_once(&mut found, *member)?;
+            }
+        }
+        Ok(found)
     }
 
     fn set_parts(&mut self, number: usize, parts: Vec<usize>) {
@@ -231,6 +282,13 @@ impl Terms {
     pub(crate) fn add_rule(&mut self, number: usize, rule: usize) -> Result<(), Memory> {
         if let Some(term) = self.entries.get_mut(number) {
             term.rules.push(rule)?;
+        }
+        Ok(())
+    }
+
+    pub(crate) fn add_opposed(&mut self, number: usize, rule: usize) -> Result<(), Memory> {
+        if let Some(term) = self.entries.get_mut(number) {
+            term.opposed.push(rule)?;
         }
         Ok(())
     }
@@ -305,4 +363,11 @@ impl Terms {
         }
         Ok(denials)
     }
+}
+
+fn add_once(numbers: &mut Vec<usize>, number: usize) -> Result<(), Memory> {
+    if !numbers.contains(&number) {
+        numbers.push(number)?;
+    }
+    Ok(())
 }

@@ -2,10 +2,12 @@
 #![tactic(auto)]
 
 mod quickly;
+mod refuting;
 mod searching;
 mod turn;
 mod verdict;
 mod way;
 
+pub use refuting::refute;
 pub use searching::{search, systematic};
 pub use verdict::Verdict;

@@ -5,5 +5,5 @@ use Rattle.reasoner.proofs.judging.tried_verdict.Goals as goal
 
 pub returns-in-Err-clause-impossible : goal.returns-in-Err-clause-impossible
 returns-in-Err-clause-impossible c =
-    subst (λ axioms. IfOk c.searched_verdict.result (λ v. IfInconsistent v (λ _. HaveNoModel (claims_of axioms)))) c.in-Err.ensures.refuses.1
-    c.searched_verdict.ensures.impossible
+    subst (λ axioms. IfOk c.proposed_verdict.result (λ v. IfInconsistent v (λ _. HaveNoModel (claims_of axioms)))) c.in-Err.ensures.refuses.1
+    c.proposed_verdict.ensures.impossible

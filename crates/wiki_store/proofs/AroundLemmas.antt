@@ -1,8 +1,7 @@
 -- What is known around a place of an article.
-use Rattle.std.proofs.Common.{◌≡◌, ℕ, zero, suc, min, ◌+◌, ◌<◌, cond, List, [], ◌∷◌, ◌++◌, length, take, drop, get_or, set, Option, Some, unwrap_or, refl, sym, ap, subst, ◌∙◌, append_assoc, arith}
+use Rattle.std.proofs.Common.{◌≡◌, ℕ, zero, suc, min, ◌+◌, ◌<◌, ◌≤◌, cond, List, [], ◌∷◌, ◌++◌, length, take, drop, get_or, set, Option, Some, None, unwrap_or, refl, sym, ap, subst, ◌∙◌, append_assoc, arith}
 use Rattle.std.specs.List.{slice_get, remove}
 use Rattle.std.proofs.lemmas.List.{drop_more, take-set, drop-set, take-append-drop, length-take, length-take-le, length-map}
-use Rattle.std.proofs.lemmas.List.Elements.{All-append}
 use Rattle.std.proofs.lemmas.Option.{none-some, get_or_from_slice_get, slice_get_within, slice_get-get_or}
 use Rattle.std.specs.Option.{option_map_or, IsSomeAnd}
 use Rattle.wiki_base.specs.declared.numbers.WordId.{WordId}
@@ -10,11 +9,9 @@ use Rattle.wiki_talk.specs.declared.statuses.Status.TheVariants.{Retracted}
 use Rattle.codeco_terms.specs.GrammarParts.{GrammarParts}
 use Rattle.lexicon.specs.Words.{Listed}
 use Rattle.logic_terms.specs.Concept.{Claim}
-use Rattle.logic_terms.specs.Interpretation.{Interpretation}
-use Rattle.logic_terms.specs.Reading.{Holds, IsModel}
 use Rattle.articles.specs.declared.sentences.Sentence.{Sentence}
 use Rattle.articles.specs.declared.article.Article.{Article}
-use Rattle.articles.specs.Articles.{AreInOrder, HasSentence, article_of, changed, with_change, with_status}
+use Rattle.articles.specs.Articles.{AreInOrder, HasPlace, HasSentence, article_of, changed, with_change, with_status}
 use Rattle.articles.specs.Places.{IsPlaceOf}
 use Rattle.articles.proofs.PlaceLemmas.{article_at, with_change-set}
 use Rattle.wiki_parts.specs.declared.meanings.Sense.{Sense}
@@ -22,7 +19,7 @@ use Rattle.wiki_parts.specs.Knowledge.{is_asserted}
 use Rattle.wiki_parts.specs.Found.{meaning_shown}
 use Rattle.wiki_parts.specs.Kept.{stated_by, meanings_in, known_of, known_in, known_around, senses_of, IsAround, MeanEach, MeanInEach}
 use Rattle.wiki_parts.proofs.KnownLemmas.{known_of-step}
-use Rattle.wiki_store.proofs.KeepingLemmas.{all_parts, as_many, as_many_lists}
+use Rattle.wiki_store.proofs.KeepingLemmas.{as_many, as_many_lists}
 
 -- what is known of lists that are cut at the same place
 pub known_of-append : (ss ts : List Sentence) (ms ns : List Sense) → length ms ≡ length ss
@@ -87,15 +84,6 @@ known_of-parts ss ms at s m same in_range here meant =
     ∙ known_of-append (take at ss) (drop at ss) (take at ms) (drop at ms) (same_take at ss ms same)
     ∙ ap (λ (cs : List Claim). known_of (take at ss) (meanings_in (take at ms)) ++ cs)
     (known_of-step ss ms at s m in_range (omega (arith, in_range, same)) here meant)
-
--- a model of five lists of axioms, one after another, is one without the middle one
-pub without_middle : (i : Interpretation) (a b middle c d : List Claim) → IsModel i (a ++ ((b ++ (middle ++ c)) ++ d)) → IsModel i (a ++ (b ++ (c ++ d)))
-without_middle i a b middle c d model =
-    let outer = all_parts (Holds i) a ((b ++ (middle ++ c)) ++ d) model in
-    let inner = all_parts (Holds i) (b ++ (middle ++ c)) d outer.1 in
-    let front = all_parts (Holds i) b (middle ++ c) inner.0 in
-    let back = all_parts (Holds i) middle c front.1 in
-    All-append (Holds i) a (b ++ (c ++ d)) outer.0 (All-append (Holds i) b (c ++ d) front.0 (All-append (Holds i) c d back.1 inner.1))
 
 -- five lists, one after another
 pub five : {X : Type 0} (a b m c d : List X) → a ++ b ++ m ++ c ++ d ≡ a ++ (b ++ (m ++ (c ++ d)))
@@ -163,32 +151,6 @@ known_in-parts articles senses place a own here meant =
     ∙ known_in-append (take place articles) (a ∷ drop (place + 1) articles) (take place senses) (own ∷ drop (place + 1) senses)
     (length-take-le place senses (omega (arith, in_senses)) ∙ sym (length-take-le place articles (omega (arith, in_articles))))
 
--- a model of all that is known is one of what is known without the sentence at a place
-pub model_without : (i : Interpretation) (articles : List Article) (senses : List (List Sense)) (place at : ℕ) → IsAround articles senses place at (at + 1)
-    → IsModel i (known_in articles senses) → IsModel i (known_around articles senses place at [] (at + 1))
-model_without i articles senses place at around model =
-    let a = around.article in
-    let within = around.within in
-    let many = around.many in
-    let in_range : at < length a.sentences = omega (arith, within) in
-    let in_own : at < length around.own = omega (arith, within, many) in
-    let s = item a.sentences at in_range in
-    let m = item around.own at in_own in
-    let front = known_in (take place articles) (take place senses) in
-    let back = known_in (drop (place + 1) articles) (drop (place + 1) senses) in
-    let split : known_in articles senses
-    ≡ front ++ ((known_of (take at a.sentences) (meanings_in (take at around.own))
-    ++ (cond (is_asserted s.0.status) (stated_by (meaning_shown m.0)) [] ++ known_of (drop (at + 1) a.sentences) (meanings_in (drop (at + 1) around.own))))
-    ++ back) =
-    known_in-parts articles senses place a around.own around.here around.meant
-    ∙ ap (λ (cs : List Claim). front ++ (cs ++ back))
-    (known_of-parts a.sentences around.own at s.0 m.0 around.many in_range (sym (get_or_from_slice_get a.sentences at s.0 s.0 s.1))
-    (sym (get_or_from_slice_get around.own at m.0 m.0 m.1))) in
-    subst (IsModel i) (sym (known_around-is articles senses place at (at + 1) [] a around.own around.here around.meant))
-    (without_middle i front (known_of (take at a.sentences) (meanings_in (take at around.own)))
-    (cond (is_asserted s.0.status) (stated_by (meaning_shown m.0)) [])
-    (known_of (drop (at + 1) a.sentences) (meanings_in (drop (at + 1) around.own))) back (subst (IsModel i) split model))
-
 -- what is known where the sentence at a place isn't asserted any more
 pub known_retracted : (articles : List Article) (senses : List (List Sense)) (word : WordId) (place at : ℕ) → AreInOrder articles
     → length senses ≡ length articles → IsPlaceOf articles word place
@@ -238,11 +200,11 @@ mean_at g words (b ∷ articles) (others ∷ senses) zero a own mean here meant 
     (subst (λ (ms : List Sense). MeanEach g words b.sentences (meanings_in ms)) (ap (λ (o : Option (List Sense)). unwrap_or o others) meant) mean.0)
 mean_at g words (b ∷ articles) (others ∷ senses) (suc place) a own mean here meant = mean_at g words articles senses place a own mean.1 here meant
 
--- the place of an article's sentence, with what is kept of the article
-pub around_there : (g : GrammarParts) (words : Listed) (articles : List Article) (senses : List (List Sense)) → MeanInEach g words articles senses
-    → AreInOrder articles
-    → (word : WordId) (place : ℕ) → IsPlaceOf articles word place → (at : ℕ) → HasSentence articles word at → IsAround articles senses place at (at + 1)
-around_there g words articles senses mean ordered word place is at there =
+-- places of an article, with what is kept of the article
+pub around_place : (g : GrammarParts) (words : Listed) (articles : List Article) (senses : List (List Sense)) → MeanInEach g words articles senses
+    → AreInOrder articles → (word : WordId) (place : ℕ) → IsPlaceOf articles word place → (from to : ℕ) → from ≤ to → HasPlace articles word to
+    → IsAround articles senses place from to
+around_place g words articles senses mean ordered word place is from to rises there =
     let lists = as_many_lists g words articles senses mean in
     let in_range = is.in_range in
     let a = item articles place in_range in
@@ -251,13 +213,13 @@ around_there g words articles senses mean ordered word place is at there =
     as_many g words a.0.sentences (meanings_in own.0) (mean_at g words articles senses place a.0 own.0 mean a.1 own.1) in
     let found : article_of articles word ≡ Some a.0 =
     article_at articles ordered word place a.0 is ∙ ap Some (get_or_from_slice_get articles place a.0 a.0 a.1) in
-    let within : at < length a.0.sentences = subst (λ (o : Option Article). IsSomeAnd o (λ b. at < length b.sentences)) found there in
-    record {
-      article = a.0;
-      here = a.1;
-      own = own.0;
-      meant = own.1;
-      many = sym (length-map own.0 meaning_shown) ∙ many;
-      rises = omega arith;
-      within = omega (arith, within);
-    }
+    let within : to ≤ length a.0.sentences = subst (λ (o : Option Article). IsSomeAnd o (λ b. to ≤ length b.sentences)) found there in
+    record { article = a.0; here = a.1; own = own.0; meant = own.1; many = sym (length-map own.0 meaning_shown) ∙ many; rises = rises; within = within }
+
+-- an article with a sentence at a place has the place behind it
+pub place-behind : (articles : List Article) (word : WordId) (at : ℕ) → HasSentence articles word at → HasPlace articles word (at + 1)
+place-behind articles word at there = by_article (article_of articles word) there
+  where
+    by_article : (o : Option Article) → IsSomeAnd o (λ a. at < length a.sentences) → IsSomeAnd o (λ a. at + 1 ≤ length a.sentences)
+    by_article None within = absurd within
+    by_article (Some a) within = omega (arith, within)

@@ -30,7 +30,7 @@ use Rattle.wiki_parts.specs.Places.{word_named, sentence_named}
 use Rattle.wiki_parts.specs.Refusing.{may_retract}
 use Rattle.wiki_parts.specs.State.{State, IsSound}
 use Rattle.wiki_store.proofs.KeepingLemmas.{all_parts, as_many_lists}
-use Rattle.wiki_store.proofs.AroundLemmas.{known_taken, known_retracted, mean_at, around_there}
+use Rattle.wiki_store.proofs.AroundLemmas.{known_taken, known_retracted, mean_at, around_place, place-behind}
 
 -- ---- the articles
 
@@ -311,8 +311,8 @@ module _ (state : State) (interpretation : Interpretation) (wiki : Holding) (see
     -- a sentence of the article, with what is kept of the article
     pub around-within : (at : ℕ) → HasSentence wiki.state.articles word at → IsAround state.articles senses place at (at + 1)
     around-within at there =
-        around_there state.grammar state.words state.articles senses keeping.mean ordered word place place-within at
-        (subst (λ (h : Holding). HasSentence h.state.articles word at) (sym seen) there)
+        around_place state.grammar state.words state.articles senses keeping.mean ordered word place place-within at (at + 1) (omega arith)
+        (place-behind state.articles word at (subst (λ (h : Holding). HasSentence h.state.articles word at) (sym seen) there))
 
 -- what is found at the place of an article is what is kept of it
 pub own-found : (articles : List Article) (senses : List (List Sense)) (place at : ℕ) (around : IsAround articles senses place at (at + 1)) (found : List Sense)

@@ -1,8 +1,9 @@
 -- Where the axioms of some sentences of an article stand among all that are known.
-use Rattle.std.proofs.Common.{◌≡◌, ℕ, ◌+◌, ◌-◌, ◌<◌, ◌≤◌, List, [], ◌∷◌, ◌++◌, length, take, drop, Option, Some, None, refl, sym, ap, ◌∙◌, append_assoc, arith}
+use Rattle.std.proofs.Common.{◌≡◌, ℕ, ◌+◌, ◌-◌, ◌≤◌, List, [], ◌∷◌, ◌++◌, length, take, drop, get_or, Option, Some, None, refl, sym, ap, ◌∙◌, append_assoc, arith}
 use Rattle.std.specs.List.{insert_slice, remove_range}
 use Rattle.std.specs.Option.{IsSomeAnd}
 use Rattle.std.proofs.lemmas.List.{length-append, length-take-le, length-drop, take-append-drop, drop-drop}
+use Rattle.std.proofs.lemmas.Option.{get_or_from_slice_get}
 use Rattle.std.proofs.Math.Seq.{take-append_seam, drop-append_seam, drop-append-add}
 use Rattle.wiki_base.specs.declared.numbers.WordId.{WordId}
 use Rattle.logic_terms.specs.Concept.{Claim}
@@ -20,7 +21,8 @@ use Rattle.wiki_parts.specs.State.{State}
 use Rattle.wiki_parts.specs.Kept.{stated_by, meanings_in, known_of, known_in, known_around, IsAround, Stands, IsKeeping}
 use Rattle.wiki_store.specs.Settled.{IsTrueIn}
 use Rattle.wiki_store.proofs.AroundLemmas.{known_in-parts, known_around-is}
-use Rattle.wiki_store.proofs.JudgeLemmas.{known_of-split, known_in-gap}
+use Rattle.wiki_store.proofs.InsideLemmas.{item-is}
+use Rattle.wiki_store.proofs.JudgeLemmas.{known_of-split}
 
 -- ---- lists
 
@@ -51,25 +53,6 @@ gone {X} xs own first within =
     ∙ drop-append_seam (front ++ own) back)
     ∙ take-append-drop first xs
 
--- The same where so many items from the place on are none, by the list that they are put in.
-pub gone-at : {X : Type 0} (xs own all : List X) (first count n : ℕ) → all ≡ take first xs ++ (own ++ drop (first + count) xs)
-    → xs ≡ take first xs ++ ([] ++ drop (first + count) xs)
-    → first + count ≤ length xs → length own ≡ n → (remove_range all first (first + n) ≡ xs) × (first + n ≤ length all)
-gone-at {X} xs own all first count n is none within many =
-    let rest = length-drop (first + count) xs in
-    let front = length-take-le first xs (omega (arith, within)) in
-    let short : length xs ≡ length (take first xs) + length (drop (first + count) xs) =
-    ap length none ∙ length-append (take first xs) (drop (first + count) xs) in
-    let here : first + count ≡ first = omega (arith, rest, front, short, within) in
-    let joined : all ≡ take first xs ++ (own ++ drop first xs) = is ∙ ap (λ (k : ℕ). take first xs ++ (own ++ drop k xs)) here in
-    let long : length all ≡ length (take first xs) + length (own ++ drop first xs) = ap length joined ∙ length-append (take first xs) (own ++ drop first xs) in
-    let more = length-append own (drop first xs) in (
-      ap (λ (ys : List X). remove_range ys first (first + n)) joined
-          ∙ ap (λ (k : ℕ). remove_range (take first xs ++ (own ++ drop first xs)) first (first + k)) (sym many)
-          ∙ gone xs own first (omega (arith, within)),
-      omega (arith, long, more, front, many),
-    )
-
 pub long-insert_slice : {X : Type 0} (xs own : List X) (first : ℕ) → first ≤ length xs → length (insert_slice xs first own) ≡ length xs + length own
 long-insert_slice xs own first within =
     let front = length-take-le first xs within in
@@ -78,20 +61,11 @@ long-insert_slice xs own first within =
     let all = length-append (take first xs ++ own) (drop first xs) in
     omega (arith, within, front, back, both, all)
 
-five-long : {X : Type 0} (a b m c d : List X) → length (a ++ (b ++ (m ++ (c ++ d)))) ≡ length a + length b + length m + length c + length d
-five-long a b m c d =
-    let one = length-append a (b ++ (m ++ (c ++ d))) in
-    let two = length-append b (m ++ (c ++ d)) in
-    let three = length-append m (c ++ d) in
-    let four = length-append c d in
-    omega (arith, one, two, three, four)
-
 -- a value that is there, with what is true of it
 pub some-there : {X : Type 0} (P : X → Type 0) (o : Option X) → IsSomeAnd o P → (x : X) × (o ≡ Some x) × P x
 some-there P None here = absurd here
 some-there P (Some x) here = (x, refl, here)
 
--- what is so is so where a call gave an error
 -- the parts of five lists, by how long they are
 parts_of : {X : Type 0} (xs a b m c own : List X) (first count : ℕ) → xs ≡ (a ++ b) ++ (m ++ c) → first ≡ length a + length b → count ≡ length m
     → take first xs ++ (own ++ drop (first + count) xs) ≡ a ++ (b ++ (own ++ c))
@@ -122,7 +96,7 @@ known_of-three ss ms from to rises same =
     (drop-drop (to - from) from ss ∙ ap (λ (n : ℕ). drop n ss) on)
     ∙ ap (λ (xs : List Sense). between ++ known_of (drop to ss) (meanings_in xs)) (drop-drop (to - from) from ms ∙ ap (λ (n : ℕ). drop n ms) on))
 
-module _ (articles : List Article) (senses : List (List Sense)) (place from to : ℕ) (around : IsAround articles senses place from to) where
+module _ {articles : List Article} {senses : List (List Sense)} {place from to : ℕ} (around : IsAround articles senses place from to) where
   -- what is known before an article's sentences, of those before a place, from it to before another, and behind that
   unfoldable pub front : List Claim
   front = known_in (take place articles) (take place senses)
@@ -167,6 +141,24 @@ module _ (articles : List Article) (senses : List (List Sense)) (place from to :
       let long : length (upto ++ later) ≡ length (before ++ (between ++ later)) = ap length same in
       omega (arith, left, right, inner, long)
 
+  -- The article's sentences, and what they mean, as they are found: how many they are, and how much is known of those before the places.
+  pub counted : {sentences : List Sentence} {meant found : List Sense} (a : Article) → sentences ≡ (get_or articles place a).sentences → meant ≡ found
+      → found ≡ get_or senses place found
+      → (length sentences ≡ length around.article.sentences) × (length meant ≡ length around.article.sentences)
+      × (length (known_of (take from sentences) (meanings_in (take from meant))) ≡ length before)
+      × (length (known_of (take to sentences) (meanings_in (take to meant))) ≡ length before + length between)
+  unfolding before
+  counted {sentences} {meant} {found} a is whole here =
+      let same : sentences ≡ around.article.sentences =
+      is ∙ ap (λ (b : Article). b.sentences) (get_or_from_slice_get articles place around.article a around.here) in
+      let own : meant ≡ around.own = whole ∙ item-is senses place found around.own around.meant here in
+      let upto : (n : ℕ) → length (known_of (take n sentences) (meanings_in (take n meant)))
+      ≡ length (known_of (take n around.article.sentences) (meanings_in (take n around.own))) =
+      λ n.
+      ap (λ (ss : List Sentence). length (known_of (take n ss) (meanings_in (take n meant)))) same
+      ∙ ap (λ (ms : List Sense). length (known_of (take n around.article.sentences) (meanings_in (take n ms)))) own in
+      (ap length same, ap length own ∙ around.many, upto from, upto to ∙ upto-long)
+
   -- they stand there among all
   pub stand : (first count : ℕ) → first ≡ length front + length before → count ≡ length between → (own : List Claim)
       → known_around articles senses place from own to ≡ take first (known_in articles senses) ++ (own ++ drop (first + count) (known_in articles senses))
@@ -207,20 +199,3 @@ keeps-claims state senses model after keeping same = record {
   short = keeping.short;
   few = keeping.few;
 }
-
--- there are so many more with these in place of none
-pub around-long : (articles : List Article) (senses : List (List Sense)) (place at : ℕ) → IsAround articles senses place at at → (own : List Claim)
-    → length (known_around articles senses place at own at) ≡ length (known_in articles senses) + length own
-around-long articles senses place at around own =
-    let a = around.article in
-    let front = known_in (take place articles) (take place senses) in
-    let back = known_in (drop (place + 1) articles) (drop (place + 1) senses) in
-    let before = known_of (take at a.sentences) (meanings_in (take at around.own)) in
-    let behind = known_of (drop at a.sentences) (meanings_in (drop at around.own)) in
-    let with_own : length (known_around articles senses place at own at) ≡ length (front ++ (before ++ (own ++ (behind ++ back)))) =
-    ap length (known_around-is articles senses place at at own a around.own around.here around.meant) in
-    let without : length (known_in articles senses) ≡ length (front ++ (before ++ ([] ++ (behind ++ back)))) =
-    ap length (known_in-gap articles senses place at around ∙ known_around-is articles senses place at at [] a around.own around.here around.meant) in
-    let long = five-long front before own behind back in
-    let short = five-long front before [] behind back in
-    omega (arith, with_own, without, long, short)

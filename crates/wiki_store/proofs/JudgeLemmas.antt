@@ -1,10 +1,9 @@
 -- What is kept where a sentence comes into an article, in place of those from a place to before another.
-use Rattle.std.proofs.Common.{◌≡◌, ℕ, zero, suc, ◌+◌, ◌<◌, ◌≤◌, Bool, true, false, cond, List, [], ◌∷◌, ◌++◌, length, take, drop, set, All, AllPairs, Option, Some, unwrap_or, refl, sym, ap, subst, ◌∙◌, append_assoc, length-append, length-drop, arith}
+use Rattle.std.proofs.Common.{◌≡◌, ℕ, zero, suc, ◌+◌, ◌≤◌, cond, List, [], ◌∷◌, ◌++◌, length, take, drop, set, All, AllPairs, Option, Some, unwrap_or, refl, sym, ap, subst, ◌∙◌, append_assoc, length-append, length-drop, arith}
 use Rattle.std.specs.Prelude.{IsTrue}
 use Rattle.std.specs.List.{slice_get}
-use Rattle.std.specs.Option.{option_map_or, IsSomeAnd}
-use Rattle.std.proofs.lemmas.Bool.{false≢true}
-use Rattle.std.proofs.lemmas.List.{length-take-le, length-map, take-append-drop}
+use Rattle.std.specs.Option.{option_map_or}
+use Rattle.std.proofs.lemmas.List.{length-take-le, take-append-drop}
 use Rattle.std.proofs.Math.Seq.{map-set_same}
 use Rattle.std.proofs.lemmas.List.Elements.{All-append, All-cons, All-take, All-drop, All-set}
 use Rattle.std.proofs.lemmas.Option.{none-some, get_or_from_slice_get, slice_get_within}
@@ -25,29 +24,25 @@ use Rattle.wiki_talk.specs.declared.statuses.Status.{Status}
 use Rattle.wiki_talk.specs.declared.statuses.Status.TheVariants.{Asserted, Retracted, RedContradiction, RedBudget, Outside, Question, QuestionOutside}
 use Rattle.articles.specs.declared.sentences.Sentence.{Sentence}
 use Rattle.articles.specs.declared.article.Article.{Article}
-use Rattle.articles.specs.Articles.{AreInOrder, HasPlace, article_of, changed, with_change, with_status}
+use Rattle.articles.specs.Articles.{AreInOrder, changed, with_change, with_status}
 use Rattle.articles.specs.Places.{IsPlaceOf}
-use Rattle.articles.proofs.PlaceLemmas.{article_at, with_change-set}
+use Rattle.articles.proofs.PlaceLemmas.{with_change-set}
 use Rattle.wiki_parts.specs.declared.meanings.Sense.{Sense}
 use Rattle.wiki_parts.specs.State.{State, IsSound}
 use Rattle.wiki_parts.specs.Meanings.{Meaning, stating, outside, asking, asking_outside, Means}
 use Rattle.wiki_parts.specs.Knowledge.{is_asserted, sentences_in, Knows, live_names, IsStatusOf}
 use Rattle.wiki_parts.specs.Holding.{FitsMeaning}
 use Rattle.wiki_parts.specs.Found.{meaning_shown}
-use Rattle.wiki_parts.specs.Refusing.{may_reassert}
 use Rattle.wiki_parts.specs.Kept.{stated_by, meanings_in, known_of, known_in, known_around, IsAround, MeanEach, MeanInEach, Stands, IsKeeping}
 use Rattle.wiki_parts.proofs.KnownLemmas.{knows_from_known}
 use Rattle.wiki_parts.proofs.MeaningLemmas.{knows_one}
 use Rattle.wiki_parts.proofs.OverLemmas.{verdict_over, verdict_plain}
-use Rattle.wiki_store.proofs.KeepingLemmas.{all_parts, as_many, as_many_lists}
+use Rattle.wiki_store.specs.Putting.{spliced}
+use Rattle.wiki_store.proofs.KeepingLemmas.{all_parts, as_many_lists}
 use Rattle.wiki_store.proofs.ChangeLemmas.{mean_of-append, mean_of-take, mean_of-drop, mean_in-set}
-use Rattle.wiki_store.proofs.AroundLemmas.{known_of-append, known_of-parts, known_in-set, known_in-parts, known_around-is, same_take, set_parts, item, mean_at}
+use Rattle.wiki_store.proofs.AroundLemmas.{known_of-append, known_in-set, known_around-is, same_take, set_parts, mean_at}
 
 -- ---- lists
-
--- a list with an item in place of those from a place to before another
-abbrev pub spliced : {X : Type 0} → List X → ℕ → ℕ → X → List X
-spliced xs from to x = take from xs ++ x ∷ drop to xs
 
 length-spliced : {X : Type 0} (xs : List X) (from to : ℕ) (x : X) → from ≤ to → to ≤ length xs → length (spliced xs from to x) + to ≡ length xs + from + 1
 length-spliced xs from to x rises within =
@@ -237,52 +232,6 @@ known_of-split ss ms at same =
     ∙ ap (λ (xs : List Sense). known_of (take at ss ++ drop at ss) (meanings_in xs)) (sym (take-append-drop at ms))
     ∙ known_of-append (take at ss) (drop at ss) (take at ms) (drop at ms) (same_take at ss ms same)
 
--- what is known is what is known around a place between two sentences
-pub known_in-gap : (articles : List Article) (senses : List (List Sense)) (place at : ℕ) → IsAround articles senses place at at
-    → known_in articles senses ≡ known_around articles senses place at [] at
-known_in-gap articles senses place at around =
-    let a = around.article in
-    let front = known_in (take place articles) (take place senses) in
-    let back = known_in (drop (place + 1) articles) (drop (place + 1) senses) in
-    let before = known_of (take at a.sentences) (meanings_in (take at around.own)) in
-    let behind = known_of (drop at a.sentences) (meanings_in (drop at around.own)) in
-    known_in-parts articles senses place a around.own around.here around.meant
-    ∙ ap (λ (cs : List Claim). front ++ (cs ++ back)) (known_of-split a.sentences around.own at around.many)
-    ∙ ap (λ (cs : List Claim). front ++ cs) (append_assoc before behind back)
-    ∙ sym (known_around-is articles senses place at at [] a around.own around.here around.meant)
-
--- what is known is what is known around a sentence that isn't asserted
-pub known_in-unasserted : (articles : List Article) (senses : List (List Sense)) (place at : ℕ) (around : IsAround articles senses place at (at + 1))
-    (s : Sentence)
-    → slice_get around.article.sentences at ≡ Some s → is_asserted s.status ≡ false
-    → known_in articles senses ≡ known_around articles senses place at [] (at + 1)
-known_in-unasserted articles senses place at around s here isnt =
-    let a = around.article in
-    let many = around.many in
-    let in_range = slice_get_within a.sentences at s here in
-    let m = item around.own at (omega (arith, in_range, many)) in
-    let front = known_in (take place articles) (take place senses) in
-    let back = known_in (drop (place + 1) articles) (drop (place + 1) senses) in
-    let before = known_of (take at a.sentences) (meanings_in (take at around.own)) in
-    let behind = known_of (drop (at + 1) a.sentences) (meanings_in (drop (at + 1) around.own)) in
-    known_in-parts articles senses place a around.own around.here around.meant
-    ∙ ap (λ (cs : List Claim). front ++ (cs ++ back))
-    (known_of-parts a.sentences around.own at s m.0 many in_range (sym (get_or_from_slice_get a.sentences at s s here))
-    (sym (get_or_from_slice_get around.own at m.0 m.0 m.1))
-    ∙ ap (λ (b : Bool). before ++ (cond b (stated_by (meaning_shown m.0)) [] ++ behind)) isnt)
-    ∙ ap (λ (cs : List Claim). front ++ cs) (append_assoc before behind back)
-    ∙ sym (known_around-is articles senses place at (at + 1) [] a around.own around.here around.meant)
-
--- a sentence that may be taken up again isn't asserted
-pub unasserted : (status : Status) → may_reassert status ≡ true → is_asserted status ≡ false
-unasserted Asserted may = absurd (false≢true may)
-unasserted Retracted may = refl
-unasserted RedContradiction may = refl
-unasserted RedBudget may = refl
-unasserted (Outside cause) may = refl
-unasserted Question may = refl
-unasserted (QuestionOutside cause) may = refl
-
 -- what the sentence at a place means
 pub means-at : (g : GrammarParts) (words : Listed) (ss : List Sentence) (ms : List Sense) (at : ℕ) (s : Sentence) (m : Sense)
     → MeanEach g words ss (meanings_in ms)
@@ -293,22 +242,6 @@ means-at g words (t ∷ ss) (n ∷ ms) zero s m mean here meant =
     subst (λ (u : Sentence). Means g words u.tokens (meaning_shown m)) (ap (λ (o : Option Sentence). unwrap_or o t) here)
     (subst (λ (k : Sense). Means g words t.tokens (meaning_shown k)) (ap (λ (o : Option Sense). unwrap_or o n) meant) mean.0.0)
 means-at g words (t ∷ ss) (n ∷ ms) (suc at) s m mean here meant = means-at g words ss ms at s m mean.1 here meant
-
--- a place of an article between two sentences, with what is kept of the article
-pub around_place : (g : GrammarParts) (words : Listed) (articles : List Article) (senses : List (List Sense)) → MeanInEach g words articles senses
-    → AreInOrder articles
-    → (word : WordId) (place : ℕ) → IsPlaceOf articles word place → (at : ℕ) → HasPlace articles word at → IsAround articles senses place at at
-around_place g words articles senses mean ordered word place is at there =
-    let lists = as_many_lists g words articles senses mean in
-    let in_range = is.in_range in
-    let a = item articles place in_range in
-    let own = item senses place (omega (arith, in_range, lists)) in
-    let many : length (meanings_in own.0) ≡ length a.0.sentences =
-    as_many g words a.0.sentences (meanings_in own.0) (mean_at g words articles senses place a.0 own.0 mean a.1 own.1) in
-    let found : article_of articles word ≡ Some a.0 =
-    article_at articles ordered word place a.0 is ∙ ap Some (get_or_from_slice_get articles place a.0 a.0 a.1) in
-    let within : at ≤ length a.0.sentences = subst (λ (o : Option Article). IsSomeAnd o (λ b. at ≤ length b.sentences)) found there in
-    record { article = a.0; here = a.1; own = own.0; meant = own.1; many = sym (length-map own.0 meaning_shown) ∙ many; rises = omega arith; within = within }
 
 -- ---- the status
 

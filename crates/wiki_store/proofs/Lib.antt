@@ -9,6 +9,7 @@ pub mod KeepingLemmas
 pub mod OtherWords
 pub mod PassedLemmas
 pub mod PutBackLemmas
+pub mod PutLemmas
 pub mod ReadLemmas
 pub mod RegroundLemmas
 pub mod RememberedLemmas

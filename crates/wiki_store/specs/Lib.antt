@@ -1,4 +1,5 @@
 pub mod Appending
+pub mod Putting
 pub mod PuttingBack
 pub mod Remembered
 pub mod Spending

@@ -1,42 +1,21 @@
 // Sentences that are added.
-ghost use Rattle.std.specs.Prelude.{◌≡◌, ◌≤◌, ◌<◌, List, length, insert, slice_get, slice_set, Some, AllPairs, IsTrue, IsSomeAnd, IfOk, IfErr, OnOk, OnErr};
-ghost use Rattle.wiki_base.specs.declared.tokens.TheConstants.{MOST_TOKENS};
-ghost use Rattle.codeco_checked.specs.Sound.{IsSound};
+ghost use Rattle.std.specs.Prelude.{◌≡◌, Some, IfOk, IfErr, OnOk, OnErr};
 ghost use Rattle.derivation_trees.specs.Cutting.{shown};
-ghost use Rattle.lexicon.specs.Words.{SharesNoForm};
-ghost use Rattle.logic_terms.specs.Concept.{Claim};
-ghost use Rattle.logic_terms.specs.Reading.{IsModel};
-ghost use Rattle.wiki_talk.specs.declared.limits.TheConstants.{MOST_SENTENCES};
-ghost use Rattle.articles.specs.Articles.{CanChange, HasPlace, with_change};
-ghost use Rattle.wiki_parts.specs.declared.meanings.Sense.{Sense as TheSense};
 ghost use Rattle.wiki_parts.specs.Faults.{IsFault, IsAbsent};
-ghost use Rattle.wiki_parts.specs.Found.{meaning_shown};
-ghost use Rattle.wiki_parts.specs.Knowledge.{IsStatusOf, Knows, sentences_in};
-ghost use Rattle.wiki_parts.specs.Meanings.{Means};
 ghost use Rattle.wiki_parts.specs.Parsing.{tokens_of};
 ghost use Rattle.wiki_parts.specs.Places.{word_named};
-ghost use Rattle.wiki_store.specs.Settled.{IsTrueIn};
+ghost use Rattle.wiki_store.specs.Putting.{CanBeMade};
 ghost use Rattle.wiki_store.specs.Spending.{SpendsBeyondKept};
-ghost use Rattle.wiki_store.specs.Step.{Step, Refuses, place_for, with_inserted};
+ghost use Rattle.wiki_store.specs.Step.{Step, Refuses, place_for};
 ghost use Rattle.wiki_store.specs.Unchanged.{KeepsInterpretation};
 
 use crate::base::Base;
-use crate::joining::{is_settled, join, stated, undo};
-use crate::standing::standing;
-use articles::{Articles, Sentence, Shared};
+use crate::putting::Change;
+use articles::Shared;
 use derivation_trees::show;
-use wiki_base::{Memory, Text8, Tokens, WordId};
-use wiki_parts::{Fault, Sense, Senses};
-use wiki_talk::{Reply, Request, Status};
-
-// A sentence that is to be stored: where, its tokens and what they mean.
-#[derive(Drop)]
-pub(crate) struct Fresh {
-    pub(crate) word: WordId,
-    pub(crate) at: u32,
-    pub(crate) tokens: Shared<Tokens>,
-    pub(crate) sense: Shared<Sense>,
-}
+use wiki_base::{Memory, Text8, Tokens};
+use wiki_parts::Fault;
+use wiki_talk::{Reply, Request};
 
 impl Base {
     // Inserts the sentence of a text at the place that is given, or at the end of the article.
@@ -52,9 +31,9 @@ impl Base {
         ensures refused { IfErr result (IsFault (Refuses self.old.state (Request.Add form.now given text.now))) }
         ensures kept { OnErr result (self.new ≡ self.old) }
     {
-        let fresh = self.fresh(form, given, text)?;
-        let shown = self.shown(fresh.tokens.get())?;
-        let status = self.insert(fresh)?;
+        let change = self.addition(form, given, text)?;
+        let shown = self.shown(change.tokens.get())?;
+        let status = self.put(change)?;
         Ok(Reply::Add { status, shown })
     }
 
@@ -65,16 +44,13 @@ impl Base {
         show(self.alloc, self.grammar.grammar(), tokens)
     }
 
-    // The new sentence, if nothing stands against it.
-    fn fresh(&self, form: &Text8, given: Option<u32>, text: &Text8) -> Result<Fresh, Fault>
-        ensures named { IfOk result (λ fresh. word_named self.now.state form.now ≡ Some fresh.word) }
-        ensures at { IfOk result (λ fresh. place_for self.now.state form.now given ≡ Some fresh.at) }
-        ensures open { IfOk result (λ fresh. CanChange self.now.state.articles fresh.word) }
-        ensures place { IfOk result (λ fresh. HasPlace self.now.state.articles fresh.word fresh.at) }
-        ensures room { OnOk result (length (sentences_in self.now.state.articles) < MOST_SENTENCES) }
-        ensures tokens { IfOk result (λ fresh. fresh.tokens ≡ tokens_of self.now.state text.now) }
-        ensures few { IfOk result (λ fresh. length fresh.tokens ≤ MOST_TOKENS) }
-        ensures means { IfOk result (λ fresh. Means self.now.state.grammar self.now.state.words fresh.tokens (meaning_shown fresh.sense)) }
+    // The new sentence at its place, if nothing stands against it.
+    fn addition(&self, form: &Text8, given: Option<u32>, text: &Text8) -> Result<Change, Fault>
+        ensures named { IfOk result (λ change. word_named self.now.state form.now ≡ Some change.word) }
+        ensures from { IfOk result (λ change. place_for self.now.state form.now given ≡ Some change.from) }
+        ensures to { IfOk result (λ change. change.to ≡ change.from) }
+        ensures tokens { IfOk result (λ change. change.tokens ≡ tokens_of self.now.state text.now) }
+        ensures can { IfOk result (CanBeMade self.now.state) }
         ensures free { OnOk result (IsAbsent (Refuses self.now.state (Request.Add form.now given text.now))) }
         ensures refused { IfErr result (IsFault (Refuses self.now.state (Request.Add form.now given text.now))) }
     {
@@ -85,167 +61,12 @@ impl Base {
         let tokens = self.tokens(text)?;
         self.open(form, article)?;
         let sense = self.sense(text, &tokens)?;
-        Ok(Fresh {
+        Ok(Change {
             word,
-            at,
+            from: at,
+            to: at,
             tokens: Shared::new(self.alloc, tokens)?,
             sense: Shared::new(self.alloc, sense)?,
         })
-    }
-
-    // Stores a new sentence with the status that it gets.
-    pub(crate) fn insert(&mut self, fresh: Fresh) -> Result<Status, Memory>
-        requires open { CanChange self.old.state.articles fresh.word }
-        requires place { HasPlace self.old.state.articles fresh.word fresh.at }
-        requires few { length fresh.tokens ≤ MOST_TOKENS }
-        requires room { length (sentences_in self.old.state.articles) < MOST_SENTENCES }
-        requires means { Means self.old.state.grammar self.old.state.words fresh.tokens (meaning_shown fresh.sense) }
-        ensures status { IfOk result (λ status. IsStatusOf
-            (with_inserted self.old.state fresh.word fresh.at (record { tokens = fresh.tokens; status = Status.Asserted })) (meaning_shown fresh.sense)
-            status) }
-        ensures after { IfOk result (λ status. self.new.state
-            ≡ with_inserted self.old.state fresh.word fresh.at (record { tokens = fresh.tokens; status = status })) }
-        ensures spent { IfOk result (λ status. status ≡ Status.RedBudget → (claims : List Claim)
-            → Knows (with_inserted self.old.state fresh.word fresh.at (record { tokens = fresh.tokens; status = Status.Asserted })) claims
-            → ¬ IsModel self.old.interpretation claims) }
-        ensures memory { OnErr result (self.new ≡ self.old) }
-    {
-        if is_settled(&self.kept, &fresh.sense) {
-            self.insert_true(fresh)
-        } else {
-            self.insert_judged(fresh)
-        }
-    }
-
-    // Stores a new statement that is true in the kept interpretation. No other axiom is looked at.
-    fn insert_true(&mut self, fresh: Fresh) -> Result<Status, Memory>
-        requires open { CanChange self.old.state.articles fresh.word }
-        requires place { HasPlace self.old.state.articles fresh.word fresh.at }
-        requires few { length fresh.tokens ≤ MOST_TOKENS }
-        requires room { length (sentences_in self.old.state.articles) < MOST_SENTENCES }
-        requires means { Means self.old.state.grammar self.old.state.words fresh.tokens (meaning_shown fresh.sense) }
-        requires settled { IsTrueIn self.old.interpretation (meaning_shown fresh.sense) }
-        ensures status { IfOk result (λ status. IsStatusOf
-            (with_inserted self.old.state fresh.word fresh.at (record { tokens = fresh.tokens; status = Status.Asserted })) (meaning_shown fresh.sense)
-            status) }
-        ensures after { IfOk result (λ status. self.new.state
-            ≡ with_inserted self.old.state fresh.word fresh.at (record { tokens = fresh.tokens; status = status })) }
-        ensures spent { IfOk result (λ status. status ≡ Status.RedBudget → (claims : List Claim)
-            → Knows (with_inserted self.old.state fresh.word fresh.at (record { tokens = fresh.tokens; status = Status.Asserted })) claims
-            → ¬ IsModel self.old.interpretation claims) }
-        ensures memory { OnErr result (self.new ≡ self.old) }
-    {
-        let place = self.place(fresh.word);
-        let at = fresh.at as usize;
-        let own = stated(self.alloc, &fresh.sense)?;
-        let count = own.len();
-        join(
-            &mut self.kept,
-            self.articles.as_slice(),
-            &self.senses,
-            place,
-            at,
-            own,
-            at,
-        )?;
-        let status = Status::Asserted;
-        match put(&mut self.articles, &mut self.senses, place, fresh, status) {
-            Ok(()) => Ok(status),
-            Err(fault) => {
-                let articles = self.articles.as_slice();
-                undo(&mut self.kept, articles, &self.senses, place, at, count);
-                Err(fault)
-            }
-        }
-    }
-
-    // Stores a new sentence with the status that it gets by a verdict on all that is known, if it is a statement.
-    fn insert_judged(&mut self, fresh: Fresh) -> Result<Status, Memory>
-        requires open { CanChange self.old.state.articles fresh.word }
-        requires place { HasPlace self.old.state.articles fresh.word fresh.at }
-        requires few { length fresh.tokens ≤ MOST_TOKENS }
-        requires room { length (sentences_in self.old.state.articles) < MOST_SENTENCES }
-        requires means { Means self.old.state.grammar self.old.state.words fresh.tokens (meaning_shown fresh.sense) }
-        ensures status { IfOk result (λ status. IsStatusOf
-            (with_inserted self.old.state fresh.word fresh.at (record { tokens = fresh.tokens; status = Status.Asserted })) (meaning_shown fresh.sense)
-            status) }
-        ensures after { IfOk result (λ status. self.new.state
-            ≡ with_inserted self.old.state fresh.word fresh.at (record { tokens = fresh.tokens; status = status })) }
-        ensures spent { IfOk result (λ status. status ≡ Status.RedBudget → (claims : List Claim)
-            → Knows (with_inserted self.old.state fresh.word fresh.at (record { tokens = fresh.tokens; status = Status.Asserted })) claims
-            → ¬ IsModel self.old.interpretation claims) }
-        ensures memory { OnErr result (self.new ≡ self.old) }
-    {
-        self.are_apart();
-        let place = self.place(fresh.word);
-        let at = fresh.at as usize;
-        let (status, model) = standing(
-            self.alloc,
-            &self.lexicon,
-            self.articles.as_slice(),
-            &self.senses,
-            &self.kept,
-            self.budget,
-            place,
-            at,
-            at,
-            &fresh.sense,
-        )?;
-        self.senses[place].insert(at, fresh.sense)?;
-        let tokens = fresh.tokens;
-        match self
-            .articles
-            .insert(fresh.word, fresh.at, Sentence { tokens, status })
-        {
-            Ok(()) => {
-                if let Some(model) = model {
-                    self.kept = model;
-                }
-                Ok(status)
-            }
-            Err(fault) => {
-                let _ = self.senses[place].remove(at);
-                Err(fault)
-            }
-        }
-    }
-
-    // The grammar is sound, and no two words share a form.
-    pub(crate) fn are_apart(&self)
-        ensures sound { IsSound self.now.state.grammar }
-        ensures apart { AllPairs SharesNoForm self.now.state.words.live }
-    {
-        let _ = self.grammar.grammar();
-        let _ = self.lexicon.len();
-    }
-}
-
-// Stores a sentence with its status, and what it means beside it.
-fn put(
-    articles: &mut Articles,
-    senses: &mut Vec<Senses>,
-    place: usize,
-    fresh: Fresh,
-    status: Status,
-) -> Result<(), Memory>
-    requires open { CanChange articles.old fresh.word }
-    requires place { HasPlace articles.old fresh.word fresh.at }
-    requires own { IsSomeAnd (slice_get senses.old.items place) (λ own. fresh.at ≤ length own) }
-    ensures articles { OnOk result (articles.new
-        ≡ with_change articles.old fresh.word (λ sentences. insert sentences fresh.at (record { tokens = fresh.tokens; status = status }))) }
-    ensures senses { OnOk result ((own : List TheSense) → slice_get senses.old.items place ≡ Some own
-        → senses.new.items ≡ slice_set senses.old.items place (insert own fresh.at fresh.sense)) }
-    ensures articles_stay { OnErr result (articles.new ≡ articles.old) }
-    ensures senses_stay { OnErr result (senses.new.items ≡ senses.old.items) }
-{
-    let at = fresh.at as usize;
-    senses[place].insert(at, fresh.sense)?;
-    let tokens = fresh.tokens;
-    match articles.insert(fresh.word, fresh.at, Sentence { tokens, status }) {
-        Ok(()) => Ok(()),
-        Err(fault) => {
-            let _ = senses[place].remove(at);
-            Err(fault)
-        }
     }
 }

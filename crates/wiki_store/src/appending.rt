@@ -9,8 +9,8 @@ ghost use Rattle.wiki_parts.specs.Knowledge.{sentences_in, GetStatus};
 ghost use Rattle.wiki_parts.specs.Meanings.{Means};
 ghost use Rattle.wiki_store.specs.Appending.{end_of, with_appended, SpendsAtEnd};
 
-use crate::adding::Fresh;
 use crate::base::Base;
+use crate::putting::Change;
 use articles::Shared;
 use lists::Copied;
 use wiki_base::{Memory, Tokens, WordId};
@@ -29,13 +29,15 @@ impl Base {
         ensures spent { IfOk result (SpendsAtEnd self.old word tokens.now) }
         ensures memory { OnErr result (self.new ≡ self.old) }
     {
-        let fresh = Fresh {
+        let end = self.end(word);
+        let change = Change {
             word,
-            at: self.end(word),
+            from: end,
+            to: end,
             tokens: Shared::new(self.alloc, tokens.copy()?)?,
             sense: Shared::new(self.alloc, self.meant(tokens)?)?,
         };
-        self.insert(fresh)
+        self.put(change)
     }
 
     // The place behind the last sentence of the word's article.

@@ -1,13 +1,13 @@
 // How the axioms of a sentence are put into the model that is kept, and taken out of it, without a look at the others.
-ghost use Rattle.std.specs.Prelude.{◌≡◌, ◌+◌, ◌<◌, ◌≤◌, ◌^◌, ◌++◌, [], List, length, take, drop, IsTrue, IfOk, OnOk, OnErr, if◌then◌else◌};
+ghost use Rattle.std.specs.Prelude.{◌≡◌, ◌+◌, ◌<◌, ◌≤◌, ◌^◌, ◌++◌, [], List, length, take, drop, IsTrue, IfOk, OnErr, if◌then◌else◌};
 ghost use Rattle.logic_terms.specs.Concept.{Claim};
 ghost use Rattle.logic_terms.specs.Reading.{IsModel};
 ghost use Rattle.logic_terms.specs.Shown.{claims_of};
 ghost use Rattle.owl_eval.specs.Checked.{kept_interp, kept_claims};
-ghost use Rattle.reasoner.specs.Verdicts.{IsFiniteModel};
 ghost use Rattle.wiki_parts.specs.Found.{meaning_shown};
-ghost use Rattle.wiki_parts.specs.Kept.{stated_by, meanings_in, known_of, known_in, known_around, IsAround};
+ghost use Rattle.wiki_parts.specs.Kept.{stated_by, meanings_in, known_of, known_in};
 ghost use Rattle.wiki_parts.specs.Knowledge.{is_asserted};
+ghost use Rattle.wiki_store.specs.Putting.{IsThere, known_with, known_beside, IsJoined};
 ghost use Rattle.wiki_store.specs.Settled.{IsTrueIn};
 
 use crate::keeping::Keeping;
@@ -17,6 +17,31 @@ use owl_eval::is_model;
 use std::alloc::Global;
 use wiki_base::Memory;
 use wiki_parts::{Sense, Senses, is_asserted};
+
+// A stretch of the sentences of an article, from a place to before another, with all articles, and what their sentences mean.
+#[derive(Clone, Copy)]
+pub(crate) struct Stretch<'a> {
+    pub(crate) articles: &'a [Article],
+    pub(crate) senses: &'a [Senses],
+    pub(crate) place: usize,
+    pub(crate) from: usize,
+    pub(crate) to: usize,
+}
+
+// Axioms of a list: how many stand before them, and how many they are.
+#[derive(Drop)]
+pub(crate) struct Span {
+    pub(crate) first: usize,
+    pub(crate) count: usize,
+}
+
+// Axioms that were put into a list before others that are to go: where they begin, where the others do, and where those end.
+#[derive(Drop)]
+pub(crate) struct Joined {
+    pub(crate) first: usize,
+    pub(crate) behind: usize,
+    pub(crate) end: usize,
+}
 
 // Whether it is a statement that is true in the kept interpretation, so that no search is needed.
 pub(crate) fn is_settled(kept: &Keeping, sense: &Shared<Sense>) -> bool
@@ -28,96 +53,56 @@ pub(crate) fn is_settled(kept: &Keeping, sense: &Shared<Sense>) -> bool
     }
 }
 
-// Puts axioms that are true in the kept interpretation in place of those of some sentences of an article, from a place to
-// before another.
-pub(crate) fn join(
-    kept: &mut Keeping,
-    articles: &[Article],
-    senses: &[Senses],
-    place: usize,
-    from: usize,
-    own: Axioms,
-    to: usize,
-) -> Result<(), Memory>
-    requires around { IsAround articles.now senses.now place from to }
-    requires known { kept_claims kept.old ≡ known_in articles.now senses.now }
+// Puts axioms that are true in the kept interpretation in before those of a stretch of sentences. Where these leave then, what is known
+// has the one in place of the other; where the new ones leave, it is as it was.
+pub(crate) fn join(kept: &mut Keeping, stretch: &Stretch<'_>, own: Axioms) -> Result<Joined, Memory>
+    requires there { IsThere stretch.now }
+    requires known { kept_claims kept.old ≡ known_with stretch.now }
     requires model { IsModel (kept_interp kept.old) (claims_of own) }
-    ensures joined { OnOk result (kept_claims kept.new ≡ known_around articles.now senses.now place from (claims_of own) to) }
+    ensures joined { IfOk result (IsJoined (kept_claims kept.old) (known_beside stretch.now (claims_of own)) (kept_claims kept.new)) }
     ensures interp { kept_interp kept.new ≡ kept_interp kept.old }
-    ensures finite { OnOk result (IsFiniteModel (kept_interp kept.new) (kept_claims kept.new)) }
     ensures memory { OnErr result (kept_claims kept.new ≡ kept_claims kept.old) }
 {
     let total = kept.axioms().len();
-    let old = span_of(articles, senses, place, from, to, total);
+    let old = span_of(stretch, total);
     if !kept.insert(old.first, own)? {
         unreachable!();
     }
     let behind = old.first + (kept.axioms().len() - total);
-    kept.remove(behind, behind + old.count);
-    let _ = kept.interp();
-    Ok(())
+    Ok(Joined {
+        first: old.first,
+        behind,
+        end: behind + old.count,
+    })
 }
 
-// Takes the axioms of some sentences of an article out, from a place to before another.
-pub(crate) fn leave(
-    kept: &mut Keeping,
-    articles: &[Article],
-    senses: &[Senses],
-    place: usize,
-    from: usize,
-    to: usize,
-)
-    requires around { IsAround articles.now senses.now place from to }
-    requires known { kept_claims kept.old ≡ known_in articles.now senses.now }
-    ensures left { kept_claims kept.new ≡ known_around articles.now senses.now place from [] to }
+// Takes the axioms of a stretch of sentences out.
+pub(crate) fn leave(kept: &mut Keeping, stretch: &Stretch<'_>)
+    requires there { IsThere stretch.now }
+    requires known { kept_claims kept.old ≡ known_with stretch.now }
+    ensures left { kept_claims kept.new ≡ known_beside stretch.now [] }
     ensures interp { kept_interp kept.new ≡ kept_interp kept.old }
 {
     let total = kept.axioms().len();
-    let old = span_of(articles, senses, place, from, to, total);
+    let old = span_of(stretch, total);
     kept.remove(old.first, old.first + old.count);
 }
 
-// Takes out so many axioms that were put in at a place between two sentences.
-pub(crate) fn undo(
-    kept: &mut Keeping,
-    articles: &[Article],
-    senses: &[Senses],
-    place: usize,
-    at: usize,
-    count: usize,
-)
-    requires around { IsAround articles.now senses.now place at at }
-    requires joined { (own : List Claim) × (length own ≡ count) × (kept_claims kept.old ≡ known_around articles.now senses.now place at own at) }
-    ensures left { kept_claims kept.new ≡ known_in articles.now senses.now }
-    ensures interp { kept_interp kept.new ≡ kept_interp kept.old }
+// Where the axioms of a stretch of sentences stand among all that are known.
+pub(crate) fn span_of(stretch: &Stretch<'_>, total: usize) -> Span
+    requires there { IsThere stretch.now }
+    requires total { length (known_with stretch.now) ≤ total }
+    ensures within { result.first + result.count ≤ length (known_with stretch.now) }
+    ensures around { (own : List Claim) → known_beside stretch.now own
+        ≡ take result.first (known_with stretch.now) ++ (own ++ drop (result.first + result.count) (known_with stretch.now)) }
 {
-    let total = kept.axioms().len();
-    let old = span_of(articles, senses, place, at, at, total);
-    kept.remove(old.first, old.first + count);
-}
-
-// Axioms of a list: how many stand before them, and how many they are.
-#[derive(Drop)]
-struct Span {
-    first: usize,
-    count: usize,
-}
-
-// Where the axioms of some sentences of an article stand, from a place to before another, among all that are known.
-fn span_of(
-    articles: &[Article],
-    senses: &[Senses],
-    place: usize,
-    from: usize,
-    to: usize,
-    total: usize,
-) -> Span
-    requires around { IsAround articles.now senses.now place from to }
-    requires total { length (known_in articles.now senses.now) ≤ total }
-    ensures within { result.first + result.count ≤ length (known_in articles.now senses.now) }
-    ensures around { (own : List Claim) → known_around articles.now senses.now place from own to
-        ≡ take result.first (known_in articles.now senses.now) ++ (own ++ drop (result.first + result.count) (known_in articles.now senses.now)) }
-{
+    let Stretch {
+        articles,
+        senses,
+        place,
+        from,
+        to,
+    } = *stretch;
     let sentences = articles[place].sentences.as_slice();
     let meant = senses[place].as_slice();
     let before = count_in(&articles[..place], &senses[..place], total);

@@ -1,9 +1,10 @@
 // The model that a wiki keeps, whose interpretation others share.
-ghost use Rattle.std.specs.Prelude.{◌≡◌, ◌≤◌, ◌↔◌, IsTrue, IfOk, OnErr, length, if◌then◌else◌};
+ghost use Rattle.std.specs.Prelude.{◌≡◌, ◌≤◌, ◌↔◌, IsTrue, IfOk, OnErr, length, unwrap_or, if◌then◌else◌};
 ghost use Rattle.std.specs.List.{insert_slice, remove_range};
 ghost use Rattle.logic_terms.specs.Interpretation.{is_interpretation};
 ghost use Rattle.logic_terms.specs.Reading.{IsModel};
 ghost use Rattle.logic_terms.specs.Shown.{claims_of};
+ghost use Rattle.reasoner.specs.Verdicts.{IsFiniteModel};
 
 use articles::Shared;
 use lists::Copied;
@@ -103,7 +104,18 @@ impl Keeping {
         requires within { to ≤ length (kept_claims self.old) }
         ensures axioms { kept_claims self.new ≡ remove_range (kept_claims self.old) from to }
         ensures interp { kept_interp self.new ≡ kept_interp self.old }
+        ensures finite { IsFiniteModel (kept_interp self.new) (kept_claims self.new) }
     {
         self.model.remove(from, to);
+        let _ = self.interp();
+    }
+
+    // Another model in its place, if there is one.
+    pub(crate) fn exchange(&mut self, other: Option<Keeping>)
+        ensures { self.new ≡ unwrap_or other self.old }
+    {
+        if let Some(other) = other {
+            *self = other;
+        }
     }
 }

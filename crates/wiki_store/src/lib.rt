@@ -9,6 +9,7 @@ mod changing;
 mod joining;
 mod keeping;
 mod lending;
+mod putting;
 mod reading;
 mod recalling;
 mod regrounding;

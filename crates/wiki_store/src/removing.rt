@@ -1,24 +1,16 @@
 // Sentences that leave what is known.
-ghost use Rattle.std.specs.Prelude.{◌≡◌, ◌+◌, [], true, Some, IfOk, IfErr, OnOk, OnErr, IsSomeAnd};
+ghost use Rattle.std.specs.Prelude.{◌≡◌, true, Some, IfOk, IfErr, OnOk, OnErr, IsSomeAnd};
 ghost use Rattle.articles.specs.Articles.{CanChange, HasSentence, sentence_at};
-ghost use Rattle.owl_eval.specs.Checked.{kept_interp, kept_claims};
 ghost use Rattle.wiki_parts.specs.Faults.{IsFault, IsAbsent};
-ghost use Rattle.wiki_parts.specs.Kept.{known_around, known_in, IsAround};
 ghost use Rattle.wiki_parts.specs.Places.{word_named};
 ghost use Rattle.wiki_parts.specs.Refusing.{may_retract};
 ghost use Rattle.wiki_store.specs.Step.{Step, Refuses};
 ghost use Rattle.wiki_store.specs.Unchanged.{KeepsInterpretation};
 
 use crate::base::Base;
-use crate::joining::leave;
-use crate::keeping::Keeping;
-use articles::Article;
-use lists::Copied;
-use logic_terms::Axioms;
-use owl_eval::CheckedModel;
-use std::alloc::Global;
-use wiki_base::{Memory, Text8, WordId};
-use wiki_parts::{Fault, Senses, known_around};
+use crate::joining::{Stretch, leave};
+use wiki_base::{Text8, WordId};
+use wiki_parts::Fault;
 use wiki_talk::{Reply, Request, Status};
 
 impl Base {
@@ -32,14 +24,14 @@ impl Base {
         let word = self.removable(form, at)?;
         let place = self.place(word);
         let here = at as usize;
-        leave(
-            &mut self.kept,
-            self.articles.as_slice(),
-            &self.senses,
+        let gone = Stretch {
+            articles: self.articles.as_slice(),
+            senses: &self.senses,
             place,
-            here,
-            here + 1,
-        );
+            from: here,
+            to: here + 1,
+        };
+        leave(&mut self.kept, &gone);
         let _ = self.articles.take(word, at);
         let _ = self.senses[place].remove(here);
         Ok(Reply::Remove)
@@ -55,14 +47,14 @@ impl Base {
         let word = self.retracted(form, at)?;
         let place = self.place(word);
         let here = at as usize;
-        leave(
-            &mut self.kept,
-            self.articles.as_slice(),
-            &self.senses,
+        let gone = Stretch {
+            articles: self.articles.as_slice(),
+            senses: &self.senses,
             place,
-            here,
-            here + 1,
-        );
+            from: here,
+            to: here + 1,
+        };
+        leave(&mut self.kept, &gone);
         let status = Status::Retracted;
         self.articles.mark(word, at, status);
         Ok(Reply::Retract { status })
@@ -98,29 +90,5 @@ impl Base {
         self.open(form, article)?;
         self.retractable(form, at, sentence)?;
         Ok(word)
-    }
-}
-
-// The kept interpretation as a model of what is known without a sentence.
-pub(crate) fn model_without(
-    alloc: Global,
-    articles: &[Article],
-    senses: &[Senses],
-    kept: &Keeping,
-    place: usize,
-    at: u32,
-) -> Result<Keeping, Memory>
-    requires around { IsAround articles.now senses.now place at (at + 1) }
-    requires known { kept_claims kept.now ≡ known_in articles.now senses.now }
-    ensures interp { IfOk result (λ model. kept_interp model ≡ kept_interp kept.now) }
-    ensures claims { IfOk result (λ model. kept_claims model ≡ known_around articles.now senses.now place at [] (at + 1)) }
-{
-    let at = at as usize;
-    let none = Axioms::new(alloc);
-    let known = known_around(alloc, articles, senses, place, at, &none, at + 1)?;
-    let interp = kept.shared()?;
-    match CheckedModel::new(kept.interp().copy()?, known) {
-        Ok(model) => Ok(Keeping::sharing(model, interp)),
-        Err(_) => unreachable!(),
     }
 }

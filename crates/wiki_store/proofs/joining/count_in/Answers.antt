@@ -1,4 +1,4 @@
-use Rattle.std.proofs.Common.{◌≡◌, ◌≤◌, min, length, ap, arith}
+use Rattle.std.proofs.Common.{◌≤◌, min, length, ap, arith}
 use Rattle.wiki_parts.proofs.KnownLemmas.{known_in-past}
 use Rattle.wiki_store.proofs.joining.count_in.Goals as goal
 

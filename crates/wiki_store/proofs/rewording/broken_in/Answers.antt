@@ -1,4 +1,4 @@
-use Rattle.std.proofs.Common.{◌≡◌, ◌<◌, ◌≤◌, List, Some, None, length, ap, subst, arith}
+use Rattle.std.proofs.Common.{◌≡◌, ◌≤◌, List, Some, None, length, ap, subst, arith}
 use Rattle.std.specs.List.{slice_get}
 use Rattle.wiki_base.proofs.ListLaws.{slice_get_at}
 use Rattle.articles.specs.declared.sentences.Sentence.{Sentence}

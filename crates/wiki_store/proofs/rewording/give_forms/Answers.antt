@@ -1,4 +1,3 @@
-use Rattle.std.proofs.Common.{◌≡◌}
 use Rattle.wiki_store.proofs.RewordLemmas.{taken_lives, reword_names_none, reword_has_room}
 use Rattle.wiki_store.proofs.rewording.give_forms.Goals as goal
 

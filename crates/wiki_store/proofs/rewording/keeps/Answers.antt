@@ -1,4 +1,4 @@
-use Rattle.std.proofs.Common.{◌≡◌, ℕ, List, Option, ap, subst, ◌∙◌}
+use Rattle.std.proofs.Common.{ℕ, List, Option, ap, subst, ◌∙◌}
 use Rattle.std.specs.Option.{MatchOption, option_copied}
 use Rattle.derivation_trees.specs.Sentences.{IsSentence}
 use Rattle.wiki_parts.specs.declared.meanings.Sense.{Sense}

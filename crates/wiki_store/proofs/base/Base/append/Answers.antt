@@ -1,39 +1,51 @@
-use Rattle.std.proofs.Common.{◌≡◌, sym, subst, ◌∙◌}
-use Rattle.wiki_talk.specs.declared.statuses.Status.TheVariants.{Asserted, RedBudget}
-use Rattle.logic_terms.specs.Concept.{Claim}
-use Rattle.logic_terms.specs.Reading.{IsModel}
-use Rattle.std.proofs.Common.{List}
-use Rattle.wiki_parts.specs.declared.meanings.Sense.{Sense}
-use Rattle.wiki_parts.specs.Found.{meaning_shown}
-use Rattle.wiki_parts.specs.Meanings.{Means}
-use Rattle.wiki_parts.specs.Knowledge.{IsStatusOf, GetStatus, Knows}
-use Rattle.wiki_store.specs.Step.{with_inserted}
+use Rattle.std.proofs.Common.{◌≡◌, refl, ◌∙◌}
+use Rattle.wiki_talk.specs.declared.statuses.Status.TheVariants.{Asserted}
+use Rattle.wiki_parts.specs.Knowledge.{GetStatus}
+use Rattle.wiki_store.specs.declared.putting.Change.{Change}
 use Rattle.wiki_store.specs.Appending.{with_appended, SpendsAtEnd}
-use Rattle.wiki_store.proofs.InsideLemmas.{each-ok, appended-status, appended-spent}
+use Rattle.wiki_store.specs.Putting.{IsMade}
+use Rattle.wiki_store.proofs.InsideLemmas.{each-ok}
+use Rattle.wiki_store.proofs.StepLemmas.{appends-status, appends-after, appends-spent}
 use Rattle.wiki_store.proofs.base.Base.append.Goals as goal
 
 pub returns-clause-status : goal.returns-clause-status
 returns-clause-status c =
-    each-ok c.insert.result
-    (λ status. IsStatusOf (with_inserted c.args.self.now.state c.args.word c.end.result (record { tokens = c.in_ok-new.field-0; status = Asserted }))
-    (meaning_shown c.in_ok-new-2.field-0) status)
+    let change : Change = record {
+      word = c.args.word;
+      from = c.end-end.result;
+      to = c.end-end.result;
+      tokens = c.in_ok-new.field-0;
+      sense = c.in_ok-new-2.field-0;
+    } in
+    each-ok c.put.result (λ status. IsMade c.args.self.now change status c.put.new.self)
     (GetStatus (with_appended c.args.self.now.state c.args.word c.args.tokens.now Asserted) c.args.tokens.now)
-    (λ status fits.
-    appended-status c.args.self.now.state c.args.word c.end.result c.in_ok-new.field-0 c.args.tokens.now (meaning_shown c.in_ok-new-2.field-0) status
-    c.end.ensures.end (c.in_ok-new.ensures ∙ c.in_ok-copy.ensures)
-    (subst (λ (s : Sense). Means c.args.self.now.state.grammar c.args.self.now.state.words c.args.tokens.now (meaning_shown s)) (sym c.in_ok-new-2.ensures)
-    c.in_ok-meant.ensures)
-    fits)
-    c.insert.ensures.status
+    (appends-status c.args.self.now c.put.new.self change c.args.tokens.now c.end-end.ensures.end refl
+    (c.in_ok-new.ensures ∙ c.in_ok-copy.ensures)) c.put.ensures.made
+
+pub returns-clause-after : goal.returns-clause-after
+returns-clause-after c =
+    let change : Change = record {
+      word = c.args.word;
+      from = c.end-end.result;
+      to = c.end-end.result;
+      tokens = c.in_ok-new.field-0;
+      sense = c.in_ok-new-2.field-0;
+    } in
+    each-ok c.put.result (λ status. IsMade c.args.self.now change status c.put.new.self)
+    (λ status. c.put.new.self.state ≡ with_appended c.args.self.now.state c.args.word c.args.tokens.now status)
+    (appends-after c.args.self.now c.put.new.self change c.args.tokens.now c.end-end.ensures.end refl
+    (c.in_ok-new.ensures ∙ c.in_ok-copy.ensures)) c.put.ensures.made
 
 pub returns-clause-spent : goal.returns-clause-spent
 returns-clause-spent c =
-    each-ok c.insert.result
-    (λ status. status ≡ RedBudget
-    → (claims : List Claim) → Knows (with_inserted c.args.self.now.state c.args.word c.end.result (record { tokens = c.in_ok-new.field-0; status = Asserted }))
-    claims
-    → ¬ IsModel c.args.self.now.interpretation claims)
+    let change : Change = record {
+      word = c.args.word;
+      from = c.end-end.result;
+      to = c.end-end.result;
+      tokens = c.in_ok-new.field-0;
+      sense = c.in_ok-new-2.field-0;
+    } in
+    each-ok c.put.result (λ status. IsMade c.args.self.now change status c.put.new.self)
     (SpendsAtEnd c.args.self.now c.args.word c.args.tokens.now)
-    (λ status beyond. appended-spent c.args.self.now c.args.word c.end.result c.in_ok-new.field-0 c.args.tokens.now status c.end.ensures.end
-    (c.in_ok-new.ensures ∙ c.in_ok-copy.ensures) beyond)
-    c.insert.ensures.spent
+    (appends-spent c.args.self.now c.put.new.self change c.args.tokens.now c.end-end.ensures.end refl
+    (c.in_ok-new.ensures ∙ c.in_ok-copy.ensures)) c.put.ensures.made

@@ -1,4 +1,4 @@
-use Rattle.std.proofs.Common.{◌≡◌, ◌≤◌, IsSome, is_some, sym, ap, subst, ◌∙◌}
+use Rattle.std.proofs.Common.{IsSome, is_some, sym, ap, subst, ◌∙◌}
 use Rattle.std.proofs.lemmas.Bool.{false≢true}
 use Rattle.lexicon.specs.Words.{forms_of}
 use Rattle.wiki_parts.specs.Holding.{Holding}

@@ -1,4 +1,4 @@
-use Rattle.std.proofs.Common.{◌≡◌, ℕ, List, sym, subst}
+use Rattle.std.proofs.Common.{ℕ, List, sym, subst}
 use Rattle.derivation_trees.specs.Sentences.{IsSentence}
 use Rattle.wiki_parts.specs.Holding.{Holding}
 use Rattle.wiki_store.proofs.KeepingLemmas.{has_derivation}

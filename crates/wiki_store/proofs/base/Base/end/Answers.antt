@@ -1,4 +1,4 @@
-use Rattle.std.proofs.Common.{◌≡◌, sym, ◌∙◌, arith}
+use Rattle.std.proofs.Common.{sym, arith}
 use Rattle.wiki_store.proofs.KeepingLemmas.{few_there}
 use Rattle.wiki_store.proofs.base.Base.end.Goals as goal
 

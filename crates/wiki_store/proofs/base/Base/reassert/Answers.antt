@@ -1,8 +1,14 @@
-use Rattle.wiki_store.proofs.StepLemmas.{reasserts-step}
+use Rattle.wiki_store.proofs.StepLemmas.{reasserts-step, reasserts-spent}
 use Rattle.wiki_store.proofs.base.Base.reassert.Goals as goal
 
 pub returns-clause-step : goal.returns-clause-step
 returns-clause-step c =
-    reasserts-step c.args.self.now c.args.form.now c.args.at c.in_ok-word.word c.in_ok-status.status c.in_ok-word.ensures.named c.restate.new.self.state
-    c.in_ok-word.ensures.free
-    c.in_ok-word.ensures.place c.in_ok-status.ensures.status c.in_ok-status.ensures.after
+    reasserts-step c.args.self.now c.args.form.now c.in_ok-change.change c.in_ok-status.status c.put.new.self c.in_ok-change.ensures.named
+    c.in_ok-status.ensures.made c.is_kept.ensures.in_order c.args.at c.in_ok-change.ensures.from c.in_ok-change.ensures.to
+    c.in_ok-change.ensures.tokens c.in_ok-change.ensures.free
+
+pub returns-clause-spent : goal.returns-clause-spent
+returns-clause-spent c =
+    reasserts-spent c.args.self.now c.args.form.now c.in_ok-change.change c.in_ok-status.status c.put.new.self c.in_ok-change.ensures.named
+    c.in_ok-status.ensures.made c.is_kept.ensures.in_order c.args.at c.in_ok-change.ensures.from c.in_ok-change.ensures.to
+    c.in_ok-change.ensures.tokens

@@ -10,8 +10,8 @@ use Rattle.wiki_parts.specs.State.{State}
 use Rattle.wiki_store.proofs.ChangeLemmas.{place-within, around-within, own-found, below-own, keeps_taken}
 use Rattle.wiki_store.proofs.base.Base.remove.Goals as goal
 
-pub leave-requires-clause-around : goal.leave-requires-clause-around
-leave-requires-clause-around c =
+pub leave-requires-clause-there : goal.leave-requires-clause-there
+leave-requires-clause-there c =
     let inside : State = record {
       grammar = c.self.inside.grammar;
       budget = c.self.inside.budget;

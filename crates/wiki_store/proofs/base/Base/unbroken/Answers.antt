@@ -1,4 +1,4 @@
-use Rattle.std.proofs.Common.{◌≡◌, List, Option, None, refl, sym, subst}
+use Rattle.std.proofs.Common.{List, Option, None, refl, sym, subst}
 use Rattle.std.specs.Option.{option_copied}
 use Rattle.wiki_base.specs.declared.numbers.Place.{Place}
 use Rattle.articles.specs.declared.article.Article.{Article}

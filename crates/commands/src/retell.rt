@@ -117,6 +117,7 @@ pub fn why<S: Source, K: Sink>(
 }
 
 // What `why` is asked: the sentence at a place of an article, or the name as an answer to it, with the budget of each search.
+#[derive(Clone, Copy)]
 struct Asked<'a> {
     budget: u64,
     article: &'a str,

@@ -3,17 +3,19 @@ use Rattle.std.proofs.Common.{◌≡◌, ℕ, ◌≤◌, List, [], ◌∷◌, �
 use Rattle.std.specs.List.{flat_map}
 use Rattle.std.specs.Option.{option_map_or}
 use Rattle.codeco_terms.specs.GrammarParts.{GrammarParts}
-use Rattle.sessions.specs.Sessions.{PlainSession}
+use Rattle.plain_wiki.specs.Sessions.{PlainSession}
 use Rattle.wiki_talk.specs.declared.replies.Reply.{Reply}
 use Rattle.wiki_talk.specs.declared.replies.Reply.TheVariants as replies
 use Rattle.wiki_talk.specs.declared.requests.Request.{Request}
 use Rattle.wiki_talk.specs.declared.requests.Request.TheVariants as requests
+use Rattle.wiki_talk.specs.declared.requests.ArticleRequest.TheVariants as of_article
 use Rattle.wiki_talk.specs.declared.requests.LineRequest.{LineRequest}
 use Rattle.wiki_talk.specs.declared.requests.LineRequest.TheVariants as lines
 use Rattle.wiki_talk.specs.Turns.{Exchange, answered, no_request, Turns}
-use Rattle.wiki_core.specs.State.{State, first_state}
-use Rattle.wiki_core.specs.Causes.{session_numbered}
-use Rattle.wiki_core.specs.Step.{StepsSession, Step}
+use Rattle.plain_wiki.specs.State.{State, first_state}
+use Rattle.plain_wiki.specs.Places.{session_numbered}
+use Rattle.wiki_core.specs.Step.{StepsSession}
+use Rattle.plain_wiki.specs.Step.{Step}
 use Rattle.wiki_core.specs.Holding.{Holding, first_holding}
 use Rattle.wiki_core.specs.Stepping.{KeptStep}
 use Rattle.wiki_core.specs.Apart as apart
@@ -79,7 +81,7 @@ hear_run first of_lines more last run =
 -- where sessions stay, each sees what it saw
 seen_kept : (old new : State) (number : ℕ) → KeepsSessions old new → seen new number ≡ seen old number
 seen_kept old new number keeps =
-    seen_is (seen new number) (seen old number) (shared_is old.pages new.pages keeps.grammar keeps.words)
+    seen_is (seen new number) (seen old number) (shared_is old.stored new.stored keeps.grammar keeps.words)
     (ap (λ (sessions : List PlainSession). own_of sessions number) keeps.sessions)
 
 pub apt_kept : (old new : State) → KeepsSessions old new → IsApt old → IsApt new
@@ -130,8 +132,9 @@ run_before number (answered request reply ∷ exchanges) old last apt none (next
         (going_on shows.apt still rest)
     by_case (Some form) is going_on =
         let opens = opens_by number request reply form is in
-        let step_on : StepsSession old (requests.Begin form) (replies.Begin number) next =
-        subst (λ (r : Reply). Step old (requests.Begin form) r next) opens.told (subst (λ (q : Request). Step old q reply next) opens.asked step) in
+        let step_on : StepsSession old (requests.OnArticle form of_article.Open) (replies.Open number) next =
+        subst (λ (r : Reply). Step old (requests.OnArticle form of_article.Open) r next) opens.told
+            (subst (λ (q : Request). Step old q reply next) opens.asked step) in
         let shows = begin_shows old next number apt form none step_on in
         follows_append (seen old number) (apart.opened form ∷ []) (seen next number) (flat_map (apart.heard_open number) exchanges) (seen last number)
         shows.0.follows

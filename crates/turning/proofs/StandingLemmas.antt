@@ -9,10 +9,10 @@ use Rattle.wiki_talk.specs.declared.requests.Request.{Request}
 use Rattle.wiki_talk.specs.declared.requests.LineRequest.{LineRequest}
 use Rattle.wiki_talk.specs.declared.requests.LineRequest.TheVariants as lines
 use Rattle.wiki_talk.specs.Turns.{Exchange, answered, no_request, Turns}
-use Rattle.wiki_parts.specs.State as parts
+use Rattle.plain_wiki.specs.State.{Stored}
 use Rattle.wiki_store.specs.Step as store
 use Rattle.wiki_store.specs.Step.{asks_store}
-use Rattle.wiki_core.specs.State.{State}
+use Rattle.plain_wiki.specs.State.{State}
 use Rattle.wiki_core.specs.Holding.{Holding, first_holding}
 use Rattle.wiki_core.specs.Stepping.{KeptStep}
 use Rattle.wiki_core.specs.Journaled as core
@@ -65,17 +65,17 @@ asks_again (request ∷ asked) more first last budget other its_last twins (repl
 
 -- the changes of a run's requests, asked over the same words and sentences
 made_run : (more : List (Exchange Request Reply)) (first last : Holding) (other its_last : Recalling) → IsReady first.state → Turns KeptStep first more last
-    → All GivesUnraised (core.asked_of more) → SpendsNone more → StandAlike first.state.pages other.wiki.state.pages
+    → All GivesUnraised (core.asked_of more) → SpendsNone more → StandAlike first.state.stored other.wiki.state.stored
     → Asks other (map lines.Step (changes_of more)) its_last
-    → StandAlike last.state.pages its_last.wiki.state.pages
+    → StandAlike last.state.stored its_last.wiki.state.stored
 made_run [] first last other its_last ready turns unraised kept same asks =
-    subst (λ (w : Holding). StandAlike w.state.pages its_last.wiki.state.pages) (sym turns)
-    (subst (λ (r : Recalling). StandAlike first.state.pages r.wiki.state.pages) (sym asks) same)
+    subst (λ (w : Holding). StandAlike w.state.stored its_last.wiki.state.stored) (sym turns)
+    (subst (λ (r : Recalling). StandAlike first.state.stored r.wiki.state.stored) (sym asks) same)
 made_run (no_request ∷ more) first last other its_last ready (next, is, turns) unraised kept same asks =
     made_run more next last other its_last (subst (λ (w : Holding). IsReady w.state) (sym is) ready) turns unraised kept
-    (subst (λ (w : Holding). StandAlike w.state.pages other.wiki.state.pages) (sym is) same) asks
+    (subst (λ (w : Holding). StandAlike w.state.stored other.wiki.state.stored) (sym is) same) asks
 made_run (answered request reply ∷ more) first last other its_last ready (next, step, turns) unraised kept same asks =
-    by (step_made first.state request reply next.state ready.pages ready.short step.step)
+    by (step_made first.state request reply next.state ready.stored ready.short step.step)
     (λ it alike asked. made_run more next last it its_last later turns (All-tail GivesUnraised request (core.asked_of more) unraised) both.1 alike asked)
   where
     both : (tells_spent reply ≡ false) × (list_any is_spent_in more ≡ false)
@@ -84,23 +84,23 @@ made_run (answered request reply ∷ more) first last other its_last ready (next
     later : IsReady next.state
     later = stays_ready first.state next.state reply ready request step.held.utf8 (All-head GivesUnraised request (core.asked_of more) unraised) step.step
 
-    change_made : (change : Request) → store.Step first.state.pages change (reply_again reply) next.state.pages → asks_store change ≡ true
-        → ((it : Recalling) → StandAlike next.state.pages it.wiki.state.pages → Asks it (map lines.Step (changes_of more)) its_last
-        → StandAlike last.state.pages its_last.wiki.state.pages)
-        → Asks other (lines.Step change ∷ map lines.Step (changes_of more)) its_last → StandAlike last.state.pages its_last.wiki.state.pages
+    change_made : (change : Request) → store.Step first.state.stored change (reply_again reply) next.state.stored → asks_store change ≡ true
+        → ((it : Recalling) → StandAlike next.state.stored it.wiki.state.stored → Asks it (map lines.Step (changes_of more)) its_last
+        → StandAlike last.state.stored its_last.wiki.state.stored)
+        → Asks other (lines.Step change ∷ map lines.Step (changes_of more)) its_last → StandAlike last.state.stored its_last.wiki.state.stored
     change_made change made asks_it going_on (its_reply, its_next, its_turn, its_kept, rest) =
         going_on its_next
-        (made_again first.state.pages next.state.pages change (reply_again reply) made (spent_again reply ∙ both.0) asks_it other.wiki.state
+        (made_again first.state.stored next.state.stored change (reply_again reply) made (spent_again reply ∙ both.0) asks_it other.wiki.state
         its_next.wiki.state its_reply same its_turn.0.step its_kept)
         rest
 
-    by : IsMade first.state.pages request reply next.state.pages
-        → ((it : Recalling) → StandAlike next.state.pages it.wiki.state.pages → Asks it (map lines.Step (changes_of more)) its_last
-        → StandAlike last.state.pages its_last.wiki.state.pages)
-        → StandAlike last.state.pages its_last.wiki.state.pages
+    by : IsMade first.state.stored request reply next.state.stored
+        → ((it : Recalling) → StandAlike next.state.stored it.wiki.state.stored → Asks it (map lines.Step (changes_of more)) its_last
+        → StandAlike last.state.stored its_last.wiki.state.stored)
+        → StandAlike last.state.stored its_last.wiki.state.stored
     by (inl (none, is)) going_on =
         going_on other
-        (subst (λ (p : parts.State). StandAlike p other.wiki.state.pages) (sym is) same)
+        (subst (λ (p : Stored). StandAlike p other.wiki.state.stored) (sym is) same)
         (subst (λ (changes : List Request). Asks other (map lines.Step (changes ++ changes_of more)) its_last) none asks)
     by (inr (change, only_one, asks_it, made)) going_on =
         change_made change made asks_it going_on
@@ -120,7 +120,7 @@ stands_again_recalling g sound apart utf8 budget its_budget of_lines again more 
     let ready = lines_ready g sound apart utf8 budget of_lines run.mid run.turns asked.0 in
     made_run more run.mid.wiki last mid.0 its_last ready.ready run.steps asked.1 halves.1 (alike run.mid mid.0 mid.1.state) mid.2
   where
-    alike : (one other : Recalling) → other.wiki.state ≡ state_at one.wiki.state its_budget → StandAlike one.wiki.state.pages other.wiki.state.pages
+    alike : (one other : Recalling) → other.wiki.state ≡ state_at one.wiki.state its_budget → StandAlike one.wiki.state.stored other.wiki.state.stored
     alike one other same =
-        let is = ap (λ (s : State). s.pages) same in
-        is ∙ sym (ap (λ (n : ℕ). at_budget one.wiki.state.pages n) (ap (λ (p : parts.State). p.budget) is))
+        let is = ap (λ (s : State). s.stored) same in
+        is ∙ sym (ap (λ (n : ℕ). at_budget one.wiki.state.stored n) (ap (λ (p : Stored). p.budget) is))

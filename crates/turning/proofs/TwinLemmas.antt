@@ -10,6 +10,8 @@ use Rattle.wiki_talk.specs.declared.replies.Reply.{Reply}
 use Rattle.wiki_talk.specs.declared.replies.Reply.TheVariants as replies
 use Rattle.wiki_talk.specs.declared.requests.Request.{Request}
 use Rattle.wiki_talk.specs.declared.requests.Request.TheVariants as requests
+use Rattle.wiki_talk.specs.declared.requests.ArticleRequest.TheVariants as of_article
+use Rattle.wiki_talk.specs.declared.requests.SessionRequest.TheVariants as of_session
 use Rattle.wiki_talk.specs.declared.requests.LineRequest.{LineRequest}
 use Rattle.wiki_talk.specs.declared.requests.LineRequest.TheVariants as lines
 use Rattle.wiki_talk.specs.Turns.{answered}
@@ -17,13 +19,15 @@ use Rattle.articles.specs.declared.article.Article.{Article}
 use Rattle.articles.specs.Articles.{article_of}
 use Rattle.articles.proofs.BareLaws.{Bare}
 use Rattle.history.specs.declared.history.TheConstants.{MOST_ENTRIES}
-use Rattle.wiki_parts.specs.State as parts
+use Rattle.plain_wiki.specs.State.{Stored}
 use Rattle.wiki_store.specs.Step as store
 use Rattle.wiki_store.specs.PuttingBack.{with_sentences}
-use Rattle.wiki_core.specs.State.{State}
+use Rattle.plain_wiki.specs.State.{State}
 use Rattle.wiki_core.specs.Holding.{Holding}
 use Rattle.wiki_core.specs.Keeping.{changes_words}
-use Rattle.wiki_core.specs.Step.{Step, StepsPages, StepsSession, Refuses, IsFree}
+use Rattle.plain_wiki.specs.Step.{Step}
+use Rattle.wiki_core.specs.Step.{StepsPages, StepsSession}
+use Rattle.plain_wiki.specs.Against.{Refuses, IsFree}
 use Rattle.wiki_core.specs.Journaled.{tells_spent, is_spent_in}
 use Rattle.wiki_core.proofs.OneStepLemmas as one
 use Rattle.wiki_core.proofs.WholeStepLemmas as whole
@@ -45,14 +49,14 @@ pub record AreTwins (one : Recalling) (budget : ℕ) (other : Recalling) : Type 
 -- ---- both are refused, or both are done
 
 -- what stands against a request on words and sentences, or nothing
-store_outcome : (old : parts.State) (request : Request) (reply : Reply) (new : parts.State) → store.Step old request reply new
+store_outcome : (old : Stored) (request : Request) (reply : Reply) (new : Stored) → store.Step old request reply new
     → ((refusal : Refusal) × store.Refuses old request refusal × (is_refused reply ≡ true)) ⊎ (store.IsFree old request × (is_refused reply ≡ false))
 store_outcome old request (replies.Refused refusal) new step = inl (refusal, step.0, refl)
 store_outcome old request reply new step = inr (step.0, refl)
 
-commit_outcome : (old : State) (number : ℕ) (reply : Reply) (new : State) → StepsSession old (requests.Commit number) reply new
-    → ((refusal : Refusal) × Refuses old (requests.Commit number) refusal × (is_refused reply ≡ true))
-    ⊎ (IsFree old (requests.Commit number) × (is_refused reply ≡ false))
+commit_outcome : (old : State) (number : ℕ) (reply : Reply) (new : State) → StepsSession old (requests.OnSession number of_session.Commit) reply new
+    → ((refusal : Refusal) × Refuses old (requests.OnSession number of_session.Commit) refusal × (is_refused reply ≡ true))
+    ⊎ (IsFree old (requests.OnSession number of_session.Commit) × (is_refused reply ≡ false))
 commit_outcome old number (replies.Refused refusal) new step = inl (refusal, step.0, refl)
 commit_outcome old number reply new step = inr (step.0, refl)
 
@@ -60,34 +64,36 @@ module _ (old : State) (budget : ℕ) (said its : Reply) (new its_new : State) w
   store_refused : (request : Request) → StepsPages old request said new → StepsPages (state_at old budget) request its its_new
       → is_refused its ≡ is_refused said
   store_refused request step its_step =
-      by (store_outcome old.pages request said new.pages step.pages)
-      (store_outcome (one.at_budget old.pages budget) request its its_new.pages its_step.pages)
+      by (store_outcome old.stored request said new.stored step.stored)
+      (store_outcome (one.at_budget old.stored budget) request its its_new.stored its_step.stored)
     where
-      by : ((refusal : Refusal) × store.Refuses old.pages request refusal × (is_refused said ≡ true))
-          ⊎ (store.IsFree old.pages request × (is_refused said ≡ false))
-          → ((refusal : Refusal) × store.Refuses (one.at_budget old.pages budget) request refusal × (is_refused its ≡ true))
-          ⊎ (store.IsFree (one.at_budget old.pages budget) request × (is_refused its ≡ false))
+      by : ((refusal : Refusal) × store.Refuses old.stored request refusal × (is_refused said ≡ true))
+          ⊎ (store.IsFree old.stored request × (is_refused said ≡ false))
+          → ((refusal : Refusal) × store.Refuses (one.at_budget old.stored budget) request refusal × (is_refused its ≡ true))
+          ⊎ (store.IsFree (one.at_budget old.stored budget) request × (is_refused its ≡ false))
           → is_refused its ≡ is_refused said
       by (inl (refusal, refuses, is)) (inl (other, also, its_is)) = its_is ∙ sym is
-      by (inl (refusal, refuses, is)) (inr (free, its_is)) = absurd (free refusal (one.refuses_alike old.pages budget request refusal refuses))
+      by (inl (refusal, refuses, is)) (inr (free, its_is)) = absurd (free refusal (one.refuses_alike old.stored budget request refusal refuses))
       by (inr (free, is)) (inl (refusal, refuses, its_is)) =
-          absurd (free refusal (one.refuses_alike (one.at_budget old.pages budget) old.pages.budget request refusal refuses))
+          absurd (free refusal (one.refuses_alike (one.at_budget old.stored budget) old.stored.budget request refusal refuses))
       by (inr (free, is)) (inr (also, its_is)) = its_is ∙ sym is
 
-  commit_refused : (number : ℕ) → StepsSession old (requests.Commit number) said new → StepsSession (state_at old budget) (requests.Commit number) its its_new
+  commit_refused : (number : ℕ) → StepsSession old (requests.OnSession number of_session.Commit) said new
+      → StepsSession (state_at old budget) (requests.OnSession number of_session.Commit) its its_new
       → is_refused its ≡ is_refused said
   commit_refused number step its_step =
       by (commit_outcome old number said new step) (commit_outcome (state_at old budget) number its its_new its_step)
     where
-      by : ((refusal : Refusal) × Refuses old (requests.Commit number) refusal × (is_refused said ≡ true))
-          ⊎ (IsFree old (requests.Commit number) × (is_refused said ≡ false))
-          → ((refusal : Refusal) × Refuses (state_at old budget) (requests.Commit number) refusal × (is_refused its ≡ true))
-          ⊎ (IsFree (state_at old budget) (requests.Commit number) × (is_refused its ≡ false))
+      by : ((refusal : Refusal) × Refuses old (requests.OnSession number of_session.Commit) refusal × (is_refused said ≡ true))
+          ⊎ (IsFree old (requests.OnSession number of_session.Commit) × (is_refused said ≡ false))
+          → ((refusal : Refusal) × Refuses (state_at old budget) (requests.OnSession number of_session.Commit) refusal × (is_refused its ≡ true))
+          ⊎ (IsFree (state_at old budget) (requests.OnSession number of_session.Commit) × (is_refused its ≡ false))
           → is_refused its ≡ is_refused said
       by (inl (refusal, refuses, is)) (inl (other, also, its_is)) = its_is ∙ sym is
-      by (inl (refusal, refuses, is)) (inr (free, its_is)) = absurd (free refusal (whole.refuses_alike old budget (requests.Commit number) refusal refuses))
+      by (inl (refusal, refuses, is)) (inr (free, its_is)) =
+          absurd (free refusal (whole.refuses_alike old budget (requests.OnSession number of_session.Commit) refusal refuses))
       by (inr (free, is)) (inl (refusal, refuses, its_is)) =
-          absurd (free refusal (whole.refuses_alike (state_at old budget) old.pages.budget (requests.Commit number) refusal refuses))
+          absurd (free refusal (whole.refuses_alike (state_at old budget) old.stored.budget (requests.OnSession number of_session.Commit) refusal refuses))
       by (inr (free, is)) (inr (also, its_is)) = its_is ∙ sym is
 
 -- ---- what a request leaves of the history
@@ -122,12 +128,12 @@ other_leaves old request reply new no_words none carries = by (is_refused reply)
 
 -- the article that a request changes doesn't hang on the budget
 changed_at : (state : State) (budget : ℕ) (request : Request) → article_changed (state_at state budget) request ≡ article_changed state request
-changed_at state budget (requests.Add form place text) = refl
-changed_at state budget (requests.Edit form place text) = refl
-changed_at state budget (requests.Remove form place) = refl
-changed_at state budget (requests.Retract form place) = refl
-changed_at state budget (requests.Reassert form place) = refl
-changed_at state budget (requests.Commit session) = refl
+changed_at state budget (requests.OnArticle form (of_article.Add place text)) = refl
+changed_at state budget (requests.OnArticle form (of_article.Edit place text)) = refl
+changed_at state budget (requests.OnArticle form (of_article.Remove place)) = refl
+changed_at state budget (requests.OnArticle form (of_article.Retract place)) = refl
+changed_at state budget (requests.OnArticle form (of_article.Reassert place)) = refl
+changed_at state budget (requests.OnSession session of_session.Commit) = refl
 changed_at state budget request = refl
 
 taken_map : {X Y : Type 0} (f : X → Y) (n : ℕ) (xs : List X) → map f (take n xs) ≡ take n (map f xs)
@@ -139,8 +145,8 @@ taken_map {X} {Y} f (suc n) (x ∷ xs) = ap (λ (ys : List Y). f x ∷ ys) (take
 abbrev bare_of : List Article → WordId → Option Bare
 bare_of articles word = option_map (λ (a : Article). (word, a.sentences)) (article_of articles word)
 
-stood_of : (wiki : Holding) (word : WordId) → option_map stood (standing_of wiki word) ≡ bare_of wiki.state.pages.articles word
-stood_of wiki word = by (article_of wiki.state.pages.articles word)
+stood_of : (wiki : Holding) (word : WordId) → option_map stood (standing_of wiki word) ≡ bare_of wiki.state.stored.articles word
+stood_of wiki word = by (article_of wiki.state.stored.articles word)
   where
     by : (o : Option Article) → option_map stood (option_map (λ (a : Article). standing wiki word a.sentences) o)
         ≡ option_map (λ (a : Article). (word, a.sentences)) o
@@ -152,8 +158,8 @@ abbrev HaveSame : Recalling → Recalling → Type 0
 HaveSame one other = (map stood other.past ≡ map stood one.past) × (map stood other.future ≡ map stood one.future)
 
 module _ (old : Recalling) (budget : ℕ) (other new its_new : Recalling) (twins : AreTwins old budget other) where
-  same_articles : other.wiki.state.pages.articles ≡ old.wiki.state.pages.articles
-  same_articles = ap (λ (s : State). s.pages.articles) twins.state
+  same_articles : other.wiki.state.stored.articles ≡ old.wiki.state.stored.articles
+  same_articles = ap (λ (s : State). s.stored.articles) twins.state
 
   remember_alike : Remembers old new → Remembers other its_new → HaveSame new its_new
   remember_alike is its = (
@@ -204,14 +210,21 @@ module _ (old : Recalling) (budget : ℕ) (other new its_new : Recalling) (twins
   history_alike : (request : Request) (said reply : Reply) → Step old.wiki.state request said new.wiki.state
       → Step (state_at old.wiki.state budget) request reply its_new.wiki.state → CarriesHistory old request said new
       → CarriesHistory other request reply its_new → HaveSame new its_new
-  history_alike (requests.Begin article) said reply step its_step is its = other_alike (requests.Begin article) said reply refl refl refl is its
-  history_alike (requests.Put session text) said reply step its_step is its = other_alike (requests.Put session text) said reply refl refl refl is its
-  history_alike (requests.Back session) said reply step its_step is its = other_alike (requests.Back session) said reply refl refl refl is its
-  history_alike (requests.Menu session) said reply step its_step is its = other_alike (requests.Menu session) said reply refl refl refl is its
-  history_alike (requests.Refresh session) said reply step its_step is its = other_alike (requests.Refresh session) said reply refl refl refl is its
-  history_alike (requests.Drop session) said reply step its_step is its = other_alike (requests.Drop session) said reply refl refl refl is its
-  history_alike (requests.Commit session) said reply step its_step is its =
-      carry_alike (requests.Commit session) said reply (commit_refused old.wiki.state budget said reply new.wiki.state its_new.wiki.state session step its_step)
+  history_alike (requests.OnArticle article of_article.Open) said reply step its_step is its =
+      other_alike (requests.OnArticle article of_article.Open) said reply refl refl refl is its
+  history_alike (requests.OnSession session (of_session.Type text)) said reply step its_step is its =
+      other_alike (requests.OnSession session (of_session.Type text)) said reply refl refl refl is its
+  history_alike (requests.OnSession session of_session.Back) said reply step its_step is its =
+      other_alike (requests.OnSession session of_session.Back) said reply refl refl refl is its
+  history_alike (requests.OnSession session of_session.Menu) said reply step its_step is its =
+      other_alike (requests.OnSession session of_session.Menu) said reply refl refl refl is its
+  history_alike (requests.OnSession session of_session.Refresh) said reply step its_step is its =
+      other_alike (requests.OnSession session of_session.Refresh) said reply refl refl refl is its
+  history_alike (requests.OnSession session of_session.Drop) said reply step its_step is its =
+      other_alike (requests.OnSession session of_session.Drop) said reply refl refl refl is its
+  history_alike (requests.OnSession session of_session.Commit) said reply step its_step is its =
+      carry_alike (requests.OnSession session of_session.Commit) said reply
+          (commit_refused old.wiki.state budget said reply new.wiki.state its_new.wiki.state session step its_step)
       is its
   history_alike request said reply step its_step is its =
       carry_alike request said reply (store_refused old.wiki.state budget said reply new.wiki.state its_new.wiki.state request step its_step) is its
@@ -240,12 +253,12 @@ others_of (b ∷ bs) = bs
 
 -- the state in which it was put back
 abbrev putting : State → Bare → State
-putting state before = record state { pages = with_sentences state.pages before.0 before.1 }
+putting state before = record state { stored = with_sentences state.stored before.0 before.1 }
 
 module _ (old : Holding) (budget : ℕ) (other : Holding) (same : other.state ≡ state_at old.state budget) (from onto its_from its_onto : List Former)
     (same_from : map stood its_from ≡ map stood from) (same_onto : map stood its_onto ≡ map stood onto) (answer : List ℕ → Reply) where
-  articles_alike : other.state.pages.articles ≡ old.state.pages.articles
-  articles_alike = ap (λ (s : State). s.pages.articles) same
+  articles_alike : other.state.stored.articles ≡ old.state.stored.articles
+  articles_alike = ap (λ (s : State). s.stored.articles) same
 
   -- the newest of both, and their articles
   newest_alike : (before its_before : Former) (rest its_rest : List Former) → from ≡ before ∷ rest → its_from ≡ its_before ∷ its_rest
@@ -255,11 +268,11 @@ module _ (old : Holding) (budget : ℕ) (other : Holding) (same : other.state �
       (sym (ap (λ (fs : List Former). newest_of (map stood fs)) its) ∙ ap newest_of same_from ∙ ap (λ (fs : List Former). newest_of (map stood fs)) is)
 
   article_alike : (before its_before : Former) (article its_article : Article) → stood its_before ≡ stood before
-      → article_of old.state.pages.articles before.article ≡ Some article → article_of other.state.pages.articles its_before.article ≡ Some its_article
+      → article_of old.state.stored.articles before.article ≡ Some article → article_of other.state.stored.articles its_before.article ≡ Some its_article
       → its_article ≡ article
   article_alike before its_before article its_article alike there its_there =
       same_Some its_article article
-      (sym its_there ∙ ap (λ (b : Bare). article_of other.state.pages.articles b.0) alike
+      (sym its_there ∙ ap (λ (b : Bare). article_of other.state.stored.articles b.0) alike
       ∙ ap (λ (those : List Article). article_of those before.article) articles_alike ∙ there)
 
   -- nothing is put back in the one, and something in the other
@@ -311,8 +324,8 @@ move_alike old budget other from onto its_from its_onto answer said reply new it
     by (move_outcome old from onto answer said new from_after onto_after moves)
     (move_outcome other its_from its_onto answer reply its_new its_from_after its_onto_after its_moves)
   where
-    back : old.state ≡ state_at other.state old.state.pages.budget
-    back = sym (ap (λ (s : State). state_at s old.state.pages.budget) same)
+    back : old.state ≡ state_at other.state old.state.stored.budget
+    back = sym (ap (λ (s : State). state_at s old.state.stored.budget) same)
 
     by : ((refusal : Refusal) × IsStill old from onto refusal new from_after onto_after) ⊎ PutsBack old from onto answer said new from_after onto_after
         → ((refusal : Refusal) × IsStill other its_from its_onto refusal its_new its_from_after its_onto_after)
@@ -327,7 +340,7 @@ move_alike old budget other from onto its_from its_onto answer said reply new it
         absurd (never_done old budget other same from onto its_from its_onto same_from same_onto answer refusal reply its_new its_from_after its_onto_after
         still.0 puts)
     by (inr puts) (inl (refusal, still)) =
-        absurd (never_done other old.state.pages.budget old back its_from its_onto from onto (sym same_from) (sym same_onto) answer refusal said new from_after
+        absurd (never_done other old.state.stored.budget old back its_from its_onto from onto (sym same_from) (sym same_onto) answer refusal said new from_after
         onto_after still.0 puts)
     by (inr puts) (inr its_puts) =
         put_alike old budget other same from onto its_from its_onto same_from same_onto answer said reply new its_new from_after onto_after its_from_after

@@ -6,17 +6,22 @@ use Rattle.std.proofs.lemmas.Bool.{false≢true, eqb-true, ne_eqb}
 use Rattle.std.proofs.lemmas.Option.{none-some, same_Some}
 use Rattle.codeco_terms.specs.GrammarParts.{GrammarParts}
 use Rattle.lexicon.specs.Words.{Listed}
-use Rattle.sessions.specs.Sessions.{PlainSession}
+use Rattle.plain_wiki.specs.Sessions.{PlainSession}
 use Rattle.wiki_talk.specs.declared.statuses.Status.{Status}
 use Rattle.wiki_talk.specs.declared.refusals.Refusal.TheVariants.{NoSession}
 use Rattle.wiki_talk.specs.declared.replies.Reply.{Reply}
 use Rattle.wiki_talk.specs.declared.replies.Reply.TheVariants as replies
 use Rattle.wiki_talk.specs.declared.requests.Request.{Request}
 use Rattle.wiki_talk.specs.declared.requests.Request.TheVariants as requests
+use Rattle.wiki_talk.specs.declared.requests.WikiRequest.TheVariants as of_wiki
+use Rattle.wiki_talk.specs.declared.requests.WordRequest.TheVariants as of_word
+use Rattle.wiki_talk.specs.declared.requests.ArticleRequest.TheVariants as of_article
+use Rattle.wiki_talk.specs.declared.requests.SessionRequest.TheVariants as of_session
 use Rattle.wiki_talk.specs.Turns.{Exchange, answered, no_request, Turns}
-use Rattle.wiki_core.specs.State.{State, first_state}
-use Rattle.wiki_core.specs.Causes.{session_numbered}
-use Rattle.wiki_core.specs.Step.{StepsSession, Step}
+use Rattle.plain_wiki.specs.State.{State, first_state}
+use Rattle.plain_wiki.specs.Places.{session_numbered}
+use Rattle.wiki_core.specs.Step.{StepsSession}
+use Rattle.plain_wiki.specs.Step.{Step}
 use Rattle.wiki_core.specs.Apart as apart
 use Rattle.wiki_core.proofs.SeenLemmas.{Own, own, RebasesOwn, ended}
 use Rattle.wiki_core.proofs.HearLemmas.{Seen, Follows, follows_one, follows_append}
@@ -26,80 +31,86 @@ module _ (old new : State) (number : ℕ) (apt : IsApt old) where
   -- a step while the session is open
   pub open_step : number ≤ old.last → (request : Request) (reply : Reply) → Step old request reply new
       → Shows old new number (apart.heard_open number (answered request reply))
-  open_step below (requests.Word kind forms) reply step = word_shows old new number apt kind forms reply step
-  open_step below (requests.Find word) reply step = other_shows old new number apt (requests.Find word) reply refl step.pages step.sessions step.last
-  open_step below requests.Words reply step = other_shows old new number apt requests.Words reply refl step.pages step.sessions step.last
-  open_step below (requests.Parse text) reply step = other_shows old new number apt (requests.Parse text) reply refl step.pages step.sessions step.last
-  open_step below (requests.Reword form forms) reply step = reword_shows old new number apt form forms reply step
-  open_step below (requests.Unword form) reply step = unword_shows old new number apt form reply step
-  open_step below (requests.Grammar text) reply step = grammar_shows old new number apt text reply step
-  open_step below (requests.Add article given text) reply step =
-      other_shows old new number apt (requests.Add article given text) reply refl step.pages step.sessions step.last
-  open_step below (requests.Edit article place text) reply step =
-      other_shows old new number apt (requests.Edit article place text) reply refl step.pages step.sessions step.last
-  open_step below (requests.Remove article place) reply step =
-      other_shows old new number apt (requests.Remove article place) reply refl step.pages step.sessions step.last
-  open_step below (requests.Retract article place) reply step =
-      other_shows old new number apt (requests.Retract article place) reply refl step.pages step.sessions step.last
-  open_step below (requests.Reassert article place) reply step =
-      other_shows old new number apt (requests.Reassert article place) reply refl step.pages step.sessions step.last
-  open_step below (requests.Read article) reply step =
-      other_shows old new number apt (requests.Read article) reply refl step.pages step.sessions step.last
-  open_step below (requests.Axioms article place) reply step =
-      other_shows old new number apt (requests.Axioms article place) reply refl step.pages step.sessions step.last
-  open_step below (requests.Begin form) reply step =
+  open_step below (requests.OnWiki (of_wiki.Word kind forms)) reply step = word_shows old new number apt kind forms reply step
+  open_step below (requests.OnWord word of_word.Find) reply step =
+      other_shows old new number apt (requests.OnWord word of_word.Find) reply refl step.stored step.sessions step.last
+  open_step below (requests.OnWiki of_wiki.Words) reply step =
+      other_shows old new number apt (requests.OnWiki of_wiki.Words) reply refl step.stored step.sessions step.last
+  open_step below (requests.OnWiki (of_wiki.Parse text)) reply step =
+      other_shows old new number apt (requests.OnWiki (of_wiki.Parse text)) reply refl step.stored step.sessions step.last
+  open_step below (requests.OnWord form (of_word.Reword forms)) reply step = reword_shows old new number apt form forms reply step
+  open_step below (requests.OnWord form of_word.Unword) reply step = unword_shows old new number apt form reply step
+  open_step below (requests.OnWiki (of_wiki.Grammar text)) reply step = grammar_shows old new number apt text reply step
+  open_step below (requests.OnArticle article (of_article.Add given text)) reply step =
+      other_shows old new number apt (requests.OnArticle article (of_article.Add given text)) reply refl step.stored step.sessions step.last
+  open_step below (requests.OnArticle article (of_article.Edit place text)) reply step =
+      other_shows old new number apt (requests.OnArticle article (of_article.Edit place text)) reply refl step.stored step.sessions step.last
+  open_step below (requests.OnArticle article (of_article.Remove place)) reply step =
+      other_shows old new number apt (requests.OnArticle article (of_article.Remove place)) reply refl step.stored step.sessions step.last
+  open_step below (requests.OnArticle article (of_article.Retract place)) reply step =
+      other_shows old new number apt (requests.OnArticle article (of_article.Retract place)) reply refl step.stored step.sessions step.last
+  open_step below (requests.OnArticle article (of_article.Reassert place)) reply step =
+      other_shows old new number apt (requests.OnArticle article (of_article.Reassert place)) reply refl step.stored step.sessions step.last
+  open_step below (requests.OnArticle article of_article.Read) reply step =
+      other_shows old new number apt (requests.OnArticle article of_article.Read) reply refl step.stored step.sessions step.last
+  open_step below (requests.OnArticle article (of_article.Axioms place)) reply step =
+      other_shows old new number apt (requests.OnArticle article (of_article.Axioms place)) reply refl step.stored step.sessions step.last
+  open_step below (requests.OnArticle form of_article.Open) reply step =
       begin_other old new number apt form reply (ne_eqb (old.last + 1) number (λ same. omega (arith, same, below))) step
-  open_step below (requests.Put n text) reply step = by_test (n == number) refl
+  open_step below (requests.OnSession n (of_session.Type text)) reply step = by_test (n == number) refl
     where
       by_test : (b : Bool) → (n == number) ≡ b → Shows old new number (cond b (apart.typed text ∷ []) [])
       by_test true is = put_shows old new number apt text reply
-          (subst (λ (k : ℕ). StepsSession old (requests.Put k text) reply new) (eqb-true n number is) step)
+          (subst (λ (k : ℕ). StepsSession old (requests.OnSession k (of_session.Type text)) reply new) (eqb-true n number is) step)
       by_test false is = put_other old new number apt n text reply is step
-  open_step below (requests.Back n) reply step = by_test (n == number) refl
+  open_step below (requests.OnSession n of_session.Back) reply step = by_test (n == number) refl
     where
       by_test : (b : Bool) → (n == number) ≡ b → Shows old new number (cond b (apart.stepped_back ∷ []) [])
-      by_test true is = back_shows old new number apt reply (subst (λ (k : ℕ). StepsSession old (requests.Back k) reply new) (eqb-true n number is) step)
+      by_test true is = back_shows old new number apt reply
+          (subst (λ (k : ℕ). StepsSession old (requests.OnSession k of_session.Back) reply new) (eqb-true n number is) step)
       by_test false is = back_other old new number apt n reply is step
-  open_step below (requests.Menu n) reply step = menu_shows old new number apt n reply step
-  open_step below (requests.Commit n) (replies.Commit form status text) step = by_test (n == number) refl
+  open_step below (requests.OnSession n of_session.Menu) reply step = menu_shows old new number apt n reply step
+  open_step below (requests.OnSession n of_session.Commit) (replies.Commit form status text) step = by_test (n == number) refl
     where
       by_test : (b : Bool) → (n == number) ≡ b → Shows old new number (cond b (apart.committed ∷ []) [])
       by_test true is = commit_shows old new number apt form status text
-          (subst (λ (k : ℕ). StepsSession old (requests.Commit k) (replies.Commit form status text) new) (eqb-true n number is) step)
+          (subst (λ (k : ℕ). StepsSession old (requests.OnSession k of_session.Commit) (replies.Commit form status text) new) (eqb-true n number is) step)
       by_test false is = commit_other old new number apt n form status text is step
-  open_step below (requests.Commit n) reply step = commit_refused old new number apt n reply refl step
-  open_step below (requests.Refresh n) reply step = refresh_shows old new number apt n reply step
-  open_step below (requests.Drop n) reply step = by_test (n == number) refl
+  open_step below (requests.OnSession n of_session.Commit) reply step = commit_refused old new number apt n reply refl step
+  open_step below (requests.OnSession n of_session.Refresh) reply step = refresh_shows old new number apt n reply step
+  open_step below (requests.OnSession n of_session.Drop) reply step = by_test (n == number) refl
     where
       by_test : (b : Bool) → (n == number) ≡ b → Shows old new number (cond b (apart.dropped ∷ []) [])
-      by_test true is = drop_shows old new number apt reply (subst (λ (k : ℕ). StepsSession old (requests.Drop k) reply new) (eqb-true n number is) step)
+      by_test true is = drop_shows old new number apt reply
+          (subst (λ (k : ℕ). StepsSession old (requests.OnSession k of_session.Drop) reply new) (eqb-true n number is) step)
       by_test false is = drop_other old new number apt n reply is step
 
   -- ---- before the session is open
 
   module _ (none : session_numbered old number ≡ None) where
-    put_none : (n : ℕ) (text : List ℕ) (reply : Reply) → (n == number) ≡ true → StepsSession old (requests.Put n text) reply new → Shows old new number []
+    put_none : (n : ℕ) (text : List ℕ) (reply : Reply) → (n == number) ≡ true → StepsSession old (requests.OnSession n (of_session.Type text)) reply new
+        → Shows old new number []
     put_none n text (replies.Refused refusal) is step = shows_same old new number apt step.1
     put_none n text reply is step = absurd (none-some step.1.session (sym none ∙ ap (session_numbered old) (sym (eqb-true n number is)) ∙ step.1.named))
 
-    back_none : (n : ℕ) (reply : Reply) → (n == number) ≡ true → StepsSession old (requests.Back n) reply new → Shows old new number []
+    back_none : (n : ℕ) (reply : Reply) → (n == number) ≡ true → StepsSession old (requests.OnSession n of_session.Back) reply new → Shows old new number []
     back_none n (replies.Refused refusal) is step = shows_same old new number apt step.1
     back_none n reply is step = absurd (none-some step.1.session (sym none ∙ ap (session_numbered old) (sym (eqb-true n number is)) ∙ step.1.named))
 
-    drop_none : (n : ℕ) (reply : Reply) → (n == number) ≡ true → StepsSession old (requests.Drop n) reply new → Shows old new number []
+    drop_none : (n : ℕ) (reply : Reply) → (n == number) ≡ true → StepsSession old (requests.OnSession n of_session.Drop) reply new → Shows old new number []
     drop_none n (replies.Refused refusal) is step = shows_same old new number apt step.1
     drop_none n reply is step = absurd (step.0 (NoSession n) (record { none = ap (session_numbered old) (eqb-true n number is) ∙ none; told = refl }))
 
     commit_none : (n : ℕ) (form : List ℕ) (status : Status) (text : List ℕ) → (n == number) ≡ true
-        → StepsSession old (requests.Commit n) (replies.Commit form status text) new → Shows old new number []
+        → StepsSession old (requests.OnSession n of_session.Commit) (replies.Commit form status text) new → Shows old new number []
     commit_none n form status text is step =
         absurd (none-some step.1.session (sym none ∙ ap (session_numbered old) (sym (eqb-true n number is)) ∙ step.1.named))
 
-    begin_none : (form : List ℕ) (reply : Reply) → apart.opened_by number (answered (requests.Begin form) reply) ≡ None
-        → StepsSession old (requests.Begin form) reply new → Shows old new number []
+    begin_none : (form : List ℕ) (reply : Reply) → apart.opened_by number (answered (requests.OnArticle form of_article.Open) reply) ≡ None
+        → StepsSession old (requests.OnArticle form of_article.Open) reply new → Shows old new number []
     begin_none form (replies.Refused refusal) not_this step = shows_same old new number apt step.1
-    begin_none form (replies.Begin session) not_this step =
-        begin_other old new number apt form (replies.Begin session)
+    begin_none form (replies.Open session) not_this step =
+        begin_other old new number apt form (replies.Open session)
         (ap (λ (n : ℕ). n == number) (sym (ap session_told step.1.answer)) ∙ not_opened (session == number) not_this) step
       where
         not_opened : (b : Bool) → cond b (Some form) None ≡ None → b ≡ false
@@ -110,49 +121,50 @@ module _ (old new : State) (number : ℕ) (apt : IsApt old) where
     -- a step before the session is open, which doesn't open it
     pub before_step : (request : Request) (reply : Reply) → apart.opened_by number (answered request reply) ≡ None → Step old request reply new
         → Shows old new number (apart.heard_of_words (answered request reply))
-    before_step (requests.Word kind forms) reply not_this step = word_shows old new number apt kind forms reply step
-    before_step (requests.Find word) reply not_this step =
-        other_shows old new number apt (requests.Find word) reply refl step.pages step.sessions step.last
-    before_step requests.Words reply not_this step = other_shows old new number apt requests.Words reply refl step.pages step.sessions step.last
-    before_step (requests.Parse text) reply not_this step =
-        other_shows old new number apt (requests.Parse text) reply refl step.pages step.sessions step.last
-    before_step (requests.Reword form forms) reply not_this step = reword_shows old new number apt form forms reply step
-    before_step (requests.Unword form) reply not_this step = unword_shows old new number apt form reply step
-    before_step (requests.Grammar text) reply not_this step = grammar_shows old new number apt text reply step
-    before_step (requests.Add article given text) reply not_this step =
-        other_shows old new number apt (requests.Add article given text) reply refl step.pages step.sessions step.last
-    before_step (requests.Edit article place text) reply not_this step =
-        other_shows old new number apt (requests.Edit article place text) reply refl step.pages step.sessions step.last
-    before_step (requests.Remove article place) reply not_this step =
-        other_shows old new number apt (requests.Remove article place) reply refl step.pages step.sessions step.last
-    before_step (requests.Retract article place) reply not_this step =
-        other_shows old new number apt (requests.Retract article place) reply refl step.pages step.sessions step.last
-    before_step (requests.Reassert article place) reply not_this step =
-        other_shows old new number apt (requests.Reassert article place) reply refl step.pages step.sessions step.last
-    before_step (requests.Read article) reply not_this step =
-        other_shows old new number apt (requests.Read article) reply refl step.pages step.sessions step.last
-    before_step (requests.Axioms article place) reply not_this step =
-        other_shows old new number apt (requests.Axioms article place) reply refl step.pages step.sessions step.last
-    before_step (requests.Begin form) reply not_this step = begin_none form reply not_this step
-    before_step (requests.Put n text) reply not_this step = by_test (n == number) refl
+    before_step (requests.OnWiki (of_wiki.Word kind forms)) reply not_this step = word_shows old new number apt kind forms reply step
+    before_step (requests.OnWord word of_word.Find) reply not_this step =
+        other_shows old new number apt (requests.OnWord word of_word.Find) reply refl step.stored step.sessions step.last
+    before_step (requests.OnWiki of_wiki.Words) reply not_this step =
+        other_shows old new number apt (requests.OnWiki of_wiki.Words) reply refl step.stored step.sessions step.last
+    before_step (requests.OnWiki (of_wiki.Parse text)) reply not_this step =
+        other_shows old new number apt (requests.OnWiki (of_wiki.Parse text)) reply refl step.stored step.sessions step.last
+    before_step (requests.OnWord form (of_word.Reword forms)) reply not_this step = reword_shows old new number apt form forms reply step
+    before_step (requests.OnWord form of_word.Unword) reply not_this step = unword_shows old new number apt form reply step
+    before_step (requests.OnWiki (of_wiki.Grammar text)) reply not_this step = grammar_shows old new number apt text reply step
+    before_step (requests.OnArticle article (of_article.Add given text)) reply not_this step =
+        other_shows old new number apt (requests.OnArticle article (of_article.Add given text)) reply refl step.stored step.sessions step.last
+    before_step (requests.OnArticle article (of_article.Edit place text)) reply not_this step =
+        other_shows old new number apt (requests.OnArticle article (of_article.Edit place text)) reply refl step.stored step.sessions step.last
+    before_step (requests.OnArticle article (of_article.Remove place)) reply not_this step =
+        other_shows old new number apt (requests.OnArticle article (of_article.Remove place)) reply refl step.stored step.sessions step.last
+    before_step (requests.OnArticle article (of_article.Retract place)) reply not_this step =
+        other_shows old new number apt (requests.OnArticle article (of_article.Retract place)) reply refl step.stored step.sessions step.last
+    before_step (requests.OnArticle article (of_article.Reassert place)) reply not_this step =
+        other_shows old new number apt (requests.OnArticle article (of_article.Reassert place)) reply refl step.stored step.sessions step.last
+    before_step (requests.OnArticle article of_article.Read) reply not_this step =
+        other_shows old new number apt (requests.OnArticle article of_article.Read) reply refl step.stored step.sessions step.last
+    before_step (requests.OnArticle article (of_article.Axioms place)) reply not_this step =
+        other_shows old new number apt (requests.OnArticle article (of_article.Axioms place)) reply refl step.stored step.sessions step.last
+    before_step (requests.OnArticle form of_article.Open) reply not_this step = begin_none form reply not_this step
+    before_step (requests.OnSession n (of_session.Type text)) reply not_this step = by_test (n == number) refl
       where
         by_test : (b : Bool) → (n == number) ≡ b → Shows old new number []
         by_test true is = put_none n text reply is step
         by_test false is = put_other old new number apt n text reply is step
-    before_step (requests.Back n) reply not_this step = by_test (n == number) refl
+    before_step (requests.OnSession n of_session.Back) reply not_this step = by_test (n == number) refl
       where
         by_test : (b : Bool) → (n == number) ≡ b → Shows old new number []
         by_test true is = back_none n reply is step
         by_test false is = back_other old new number apt n reply is step
-    before_step (requests.Menu n) reply not_this step = menu_shows old new number apt n reply step
-    before_step (requests.Commit n) (replies.Commit form status text) not_this step = by_test (n == number) refl
+    before_step (requests.OnSession n of_session.Menu) reply not_this step = menu_shows old new number apt n reply step
+    before_step (requests.OnSession n of_session.Commit) (replies.Commit form status text) not_this step = by_test (n == number) refl
       where
         by_test : (b : Bool) → (n == number) ≡ b → Shows old new number []
         by_test true is = commit_none n form status text is step
         by_test false is = commit_other old new number apt n form status text is step
-    before_step (requests.Commit n) reply not_this step = commit_refused old new number apt n reply refl step
-    before_step (requests.Refresh n) reply not_this step = refresh_shows old new number apt n reply step
-    before_step (requests.Drop n) reply not_this step = by_test (n == number) refl
+    before_step (requests.OnSession n of_session.Commit) reply not_this step = commit_refused old new number apt n reply refl step
+    before_step (requests.OnSession n of_session.Refresh) reply not_this step = refresh_shows old new number apt n reply step
+    before_step (requests.OnSession n of_session.Drop) reply not_this step = by_test (n == number) refl
       where
         by_test : (b : Bool) → (n == number) ≡ b → Shows old new number []
         by_test true is = drop_none n reply is step
@@ -175,10 +187,10 @@ rebased_none old new mid is none rebases =
 -- changes of words and of the grammar open no session
 pub none_follows : (old new : Seen) (request : Request) (reply : Reply) → Follows old (apart.heard_of_words (answered request reply)) new
     → old.own ≡ None → new.own ≡ None
-none_follows old new (requests.Word kind forms) replies.Word follows none = rebased_none old new follows.0 follows.2 none follows.1.1
-none_follows old new (requests.Reword form forms) replies.Reword follows none = rebased_none old new follows.0 follows.2 none follows.1.1
-none_follows old new (requests.Grammar text) replies.Grammar follows none = rebased_none old new follows.0 follows.2 none follows.1.1
-none_follows old new (requests.Unword form) replies.Unword follows none =
+none_follows old new (requests.OnWiki (of_wiki.Word kind forms)) replies.Word follows none = rebased_none old new follows.0 follows.2 none follows.1.1
+none_follows old new (requests.OnWord form (of_word.Reword forms)) replies.Reword follows none = rebased_none old new follows.0 follows.2 none follows.1.1
+none_follows old new (requests.OnWiki (of_wiki.Grammar text)) replies.Grammar follows none = rebased_none old new follows.0 follows.2 none follows.1.1
+none_follows old new (requests.OnWord form of_word.Unword) replies.Unword follows none =
     let changes = follows.1.1 in
     ap (λ (s : Seen). s.own) follows.2 ∙ changes.4
     ∙ ap (ended changes.0) (rebases_none follows.0.shared.grammar follows.0.shared.words old.own changes.1 none changes.3)
@@ -186,16 +198,16 @@ none_follows old new request reply follows none = ap (λ (s : Seen). s.own) foll
 
 -- an exchange that opens the session is a request for one, which is told its number
 pub record Opens (number : ℕ) (request : Request) (reply : Reply) (form : List ℕ) : Type 0 where
-  pub asked : request ≡ requests.Begin form
-  pub told : reply ≡ replies.Begin number
+  pub asked : request ≡ requests.OnArticle form of_article.Open
+  pub told : reply ≡ replies.Open number
 
 pub opens_by : (number : ℕ) (request : Request) (reply : Reply) (form : List ℕ) → apart.opened_by number (answered request reply) ≡ Some form
     → Opens number request reply form
-opens_by number (requests.Begin article) (replies.Begin session) form is = by_test (session == number) (eqb-true session number) is
+opens_by number (requests.OnArticle article of_article.Open) (replies.Open session) form is = by_test (session == number) (eqb-true session number) is
   where
     by_test : (b : Bool) → (b ≡ true → session ≡ number) → cond b (Some article) None ≡ Some form
-        → Opens number (requests.Begin article) (replies.Begin session) form
-    by_test true same is = record { asked = ap requests.Begin (same_Some article form is); told = ap replies.Begin (same refl) }
+        → Opens number (requests.OnArticle article of_article.Open) (replies.Open session) form
+    by_test true same is = record { asked = ap requests.OnArticle (same_Some article form is) of_article.Open; told = ap replies.Open (same refl) }
     by_test false same is = absurd (none-some form is)
 opens_by number request reply form is = absurd (none-some form is)
 
@@ -244,8 +256,9 @@ run_before number (answered request reply ∷ exchanges) old last apt none (next
         (going_on shows.apt still rest)
     by_case (Some form) is going_on =
         let opens = opens_by number request reply form is in
-        let step_on : StepsSession old (requests.Begin form) (replies.Begin number) next =
-        subst (λ (r : Reply). Step old (requests.Begin form) r next) opens.told (subst (λ (q : Request). Step old q reply next) opens.asked step) in
+        let step_on : StepsSession old (requests.OnArticle form of_article.Open) (replies.Open number) next =
+        subst (λ (r : Reply). Step old (requests.OnArticle form of_article.Open) r next) opens.told
+        (subst (λ (q : Request). Step old q reply next) opens.asked step) in
         let shows = begin_shows old next number apt form none step_on in
         follows_append (seen old number) (apart.opened form ∷ []) (seen next number) (flat_map (apart.heard_open number) exchanges) (seen last number)
         shows.0.follows

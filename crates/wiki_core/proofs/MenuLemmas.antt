@@ -18,16 +18,20 @@ use Rattle.derivation_trees.specs.Settings.{Setting}
 use Rattle.derivation_trees.specs.Derives.{IsDerivation}
 use Rattle.derivations.specs.Typing.{IsTextMenu}
 use Rattle.sessions.specs.declared.session.Session.{Session}
-use Rattle.sessions.specs.Sessions.{PlainSession, plain, IsKept}
+use Rattle.plain_wiki.specs.Sessions.{PlainSession}
+use Rattle.sessions.specs.Sessions.{plain, IsKept}
 use Rattle.wiki_talk.specs.declared.replies.MenuView.{MenuView}
 use Rattle.wiki_talk.specs.declared.replies.Reply.{Reply}
 use Rattle.wiki_talk.specs.declared.replies.Reply.TheVariants as replies
 use Rattle.wiki_talk.specs.declared.requests.Request.{Request}
 use Rattle.wiki_talk.specs.declared.requests.Request.TheVariants as requests
-use Rattle.wiki_parts.specs.Parsing.{told_menu}
-use Rattle.wiki_core.specs.State.{State}
-use Rattle.wiki_core.specs.Causes.{session_numbered}
-use Rattle.wiki_core.specs.Step.{Step, StepsSession, TellsMenu, TellsSession}
+use Rattle.wiki_talk.specs.declared.requests.SessionRequest.TheVariants as of_session
+use Rattle.plain_wiki.specs.Parsing.{told_menu}
+use Rattle.plain_wiki.specs.State.{State}
+use Rattle.plain_wiki.specs.Places.{session_numbered}
+use Rattle.plain_wiki.specs.Step.{Step}
+use Rattle.wiki_core.specs.Step.{StepsSession, TellsSession}
+use Rattle.plain_wiki.specs.Doing.{TellsMenu}
 use Rattle.wiki_core.specs.Apart.{tokens_in, MenuIsOwn}
 use Rattle.wiki_core.proofs.KeyLaws.{pairs_head}
 
@@ -105,30 +109,30 @@ tells_one g words tokens one other tells its =
 
 -- the reply to `menu` of a session that is there tells of its tokens
 told_of : (state new : State) (number : ℕ) (tokens : List (List ℕ)) (reply : Reply) → tokens_in state number ≡ Some tokens
-    → StepsSession state (requests.Menu number) reply new
-    → TellsMenu state.pages.grammar state.pages.words tokens reply
+    → StepsSession state (requests.OnSession number of_session.Menu) reply new
+    → TellsMenu state.stored.grammar state.stored.words tokens reply
 told_of state new number tokens (replies.Refused refusal) there step =
     absurd (none-some tokens (ap (option_map (λ (s : PlainSession). s.tokens)) (sym step.0.none) ∙ there))
 told_of state new number tokens reply there step =
     let same : step.1.session.tokens ≡ tokens =
     same_Some step.1.session.tokens tokens (ap (option_map (λ (s : PlainSession). s.tokens)) (sym step.1.named) ∙ there) in
-    subst (λ (ts : List (List ℕ)). TellsMenu state.pages.grammar state.pages.words ts reply) same step.1.tells
+    subst (λ (ts : List (List ℕ)). TellsMenu state.stored.grammar state.stored.words ts reply) same step.1.tells
 
 -- so it is a function of the grammar, the words and the tokens
 pub menu_own : (state new : State) (request : Request) (reply : Reply) → Step state request reply new → MenuIsOwn state request reply
-menu_own state new (requests.Menu number) reply step = λ other its_number said after alike its_step.
+menu_own state new (requests.OnSession number of_session.Menu) reply step = λ other its_number said after alike its_step.
     let its = told_of other after its_number alike.tokens said alike.its its_step in
-    let by_grammar = subst (λ (g : GrammarParts). TellsMenu g other.pages.words alike.tokens said) alike.grammar its in
-    let by_words = subst (λ (words : Listed). TellsMenu state.pages.grammar words alike.tokens said) alike.words by_grammar in
-    tells_one state.pages.grammar state.pages.words alike.tokens reply said (told_of state new number alike.tokens reply alike.own step) by_words
+    let by_grammar = subst (λ (g : GrammarParts). TellsMenu g other.stored.words alike.tokens said) alike.grammar its in
+    let by_words = subst (λ (words : Listed). TellsMenu state.stored.grammar words alike.tokens said) alike.words by_grammar in
+    tells_one state.stored.grammar state.stored.words alike.tokens reply said (told_of state new number alike.tokens reply alike.own step) by_words
 menu_own state new request reply step = tt
 
 -- what an editor tells of a session is what is told of its tokens
 pub menu_told : (state : State) (number : ℕ) (session : Session) (g h : GrammarParts) (words : Listed) (tokens : List (List ℕ)) (menu : List (Group × List ℕ))
     (view : MenuView) (whole : Bool) (text : List ℕ)
-    → g ≡ state.pages.grammar → h ≡ state.pages.grammar → words ≡ state.pages.words → tokens ≡ session.editor.tokens
+    → g ≡ state.stored.grammar → h ≡ state.stored.grammar → words ≡ state.stored.words → tokens ≡ session.editor.tokens
     → session_numbered state number ≡ Some (plain session)
-    → IsKept state.pages.grammar state.pages.words session → IsTextMenu g words session.editor.tokens menu → All (λ entry. IsUtf8 entry.1) menu
+    → IsKept state.stored.grammar state.stored.words session → IsTextMenu g words session.editor.tokens menu → All (λ entry. IsUtf8 entry.1) menu
     → view ≡ told_menu menu
     → (IsTrue whole ↔ ((tree : Node) × IsDerivation session.editor tree)) → text ≡ shown h.terminals tokens
     → TellsSession state number (replies.Menu view whole text) state
@@ -138,7 +142,7 @@ menu_told state number session g h words tokens menu view whole text same_g same
       named = named;
       tells = record {
         menu = menu;
-        follows = subst (λ (p : GrammarParts). IsTextMenu p state.pages.words session.editor.tokens menu) same_g
+        follows = subst (λ (p : GrammarParts). IsTextMenu p state.stored.words session.editor.tokens menu) same_g
             (subst (λ (w : Listed). IsTextMenu g w session.editor.tokens menu) same_words follows);
         texts = texts;
         whole = whole;
@@ -146,7 +150,7 @@ menu_told state number session g h words tokens menu view whole text same_g same
         answer = ap (λ (v : MenuView). replies.Menu v whole text) told
             ∙ ap (λ (t : List ℕ). replies.Menu (told_menu menu) whole t)
             (shows ∙ ap (λ (p : GrammarParts). shown p.terminals tokens) same_h
-            ∙ ap (λ (ts : List (List ℕ)). shown state.pages.grammar.terminals ts) same_tokens);
+            ∙ ap (λ (ts : List (List ℕ)). shown state.stored.grammar.terminals ts) same_tokens);
       };
       after = refl;
     }

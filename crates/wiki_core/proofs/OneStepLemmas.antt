@@ -18,31 +18,36 @@ use Rattle.wiki_talk.specs.declared.replies.Reply.{Reply}
 use Rattle.wiki_talk.specs.declared.replies.Reply.TheVariants as replies
 use Rattle.wiki_talk.specs.declared.requests.Request.{Request}
 use Rattle.wiki_talk.specs.declared.requests.Request.TheVariants as requests
+use Rattle.wiki_talk.specs.declared.requests.WikiRequest.TheVariants as of_wiki
+use Rattle.wiki_talk.specs.declared.requests.WordRequest.TheVariants as of_word
+use Rattle.wiki_talk.specs.declared.requests.ArticleRequest.TheVariants as of_article
 use Rattle.articles.specs.declared.sentences.Sentence.{Sentence}
 use Rattle.articles.specs.Articles.{without_article}
-use Rattle.wiki_parts.specs.State.{State}
-use Rattle.wiki_parts.specs.Words.{forms_given}
-use Rattle.wiki_parts.specs.Parsing.{tokens_of}
-use Rattle.wiki_parts.specs.Meanings.{Meaning, stating, outside, asking, asking_outside}
-use Rattle.wiki_parts.specs.Knowledge.{HaveModel, IsAllowed, IsVerdict, IsStatusOf, GetStatus}
+use Rattle.plain_wiki.specs.State.{Stored}
+use Rattle.plain_wiki.specs.Words.{forms_given}
+use Rattle.plain_wiki.specs.Parsing.{tokens_of}
+use Rattle.plain_wiki.specs.Meanings.{Meaning, stating, outside, asking, asking_outside}
+use Rattle.plain_wiki.specs.Knowledge.{HaveModel, IsAllowed, IsVerdict, IsStatusOf, GetStatus}
 use Rattle.wiki_parts.proofs.MeaningLemmas.{means_one, knows_one}
-use Rattle.wiki_parts.specs.Refusing.{FirstOf, NamesNoWord, IsBadReword, BreaksSentence, IsInUse, IsNoGrammar, IsBare, HasForm, BreaksByGrammar, TellsPlace, HasNoSentenceAt, IsPastEnd, IsFullOfSentences, HasTooManyTokens, IsAtLastRevision, HasNoDerivation, HasBadStatus, may_retract, may_reassert}
-use Rattle.wiki_store.specs.Step.{Step, Refuses, IsFree, Does, AddsWord, RewordsWord, RemovesWord, TakesGrammar, AddsSentence, EditsSentence, RemovesSentence, RetractsSentence, ReassertsSentence, with_inserted, with_replaced, with_taken, with_marked, sentence_with}
+use Rattle.plain_wiki.specs.Causes.{FirstOf, NamesNoWord, is_bad_reword, breaks_by_forms, is_in_use, is_no_grammar, is_bare, has_a_form, breaks_by_grammar, at_place, has_no_place, is_past_end, has_no_room, has_too_many_tokens, is_at_last_revision, has_no_derivation, has_bad_status, may_retract, may_reassert}
+use Rattle.plain_wiki.specs.Step.{Step, Does}
+use Rattle.plain_wiki.specs.Against.{Refuses, IsFree}
+use Rattle.plain_wiki.specs.Doing.{AddsWord, RewordsWord, RemovesWord, TakesGrammar, AddsSentence, EditsSentence, RemovesSentence, RetractsSentence, ReassertsSentence, with_inserted, with_replaced, with_taken, with_marked, sentence_with}
 use Rattle.wiki_core.specs.Journaled.{is_spent, tells_spent}
 
 -- the same wiki, where a search may take so many steps
-abbrev pub at_budget : State → ℕ → State
+abbrev pub at_budget : Stored → ℕ → Stored
 at_budget state budget = record state { budget = budget }
 
 -- ---- a step is refused or done
 
-abbrev pub IsRefused : State → Request → Reply → State → Type 0
+abbrev pub IsRefused : Stored → Request → Reply → Stored → Type 0
 IsRefused old request reply new = (refusal : Refusal) × (reply ≡ replies.Refused refusal) × Refuses old request refusal × (new ≡ old)
 
-abbrev pub IsDone : State → Request → Reply → State → Type 0
+abbrev pub IsDone : Stored → Request → Reply → Stored → Type 0
 IsDone old request reply new = IsFree old request × Does old request reply new
 
-pub outcome : (old : State) (request : Request) (reply : Reply) (new : State) → Step old request reply new
+pub outcome : (old : Stored) (request : Request) (reply : Reply) (new : Stored) → Step old request reply new
     → IsRefused old request reply new ⊎ IsDone old request reply new
 outcome old request (replies.Refused refusal) new step = inl (refusal, refl, step.0, step.1)
 outcome old request reply new step = inr step
@@ -71,14 +76,14 @@ allowed_one claims names budget its_budget RedContradiction other is its kept al
 allowed_one claims names budget its_budget RedBudget other is its kept also = absurd (false≢true (sym kept))
 allowed_one claims names budget its_budget one other is its kept also = absurd is
 
-verdict_one : (state : State) (budget : ℕ) (one other : Status) → IsVerdict state one → IsVerdict (at_budget state budget) other → is_spent one ≡ false
+verdict_one : (state : Stored) (budget : ℕ) (one other : Status) → IsVerdict state one → IsVerdict (at_budget state budget) other → is_spent one ≡ false
     → is_spent other ≡ false → other ≡ one
 verdict_one state budget one other is its kept also =
     let same : its.claims ≡ is.claims = knows_one state its.claims is.claims its.known is.known in
     allowed_one is.claims _ state.budget budget one other is.allowed
     (subst (λ (claims : List Claim). IsAllowed claims _ budget other) same its.allowed) kept also
 
-status_of_one : (state : State) (budget : ℕ) (meaning : Meaning) (one other : Status) → IsStatusOf state meaning one
+status_of_one : (state : Stored) (budget : ℕ) (meaning : Meaning) (one other : Status) → IsStatusOf state meaning one
     → IsStatusOf (at_budget state budget) meaning other → is_spent one ≡ false → is_spent other ≡ false → other ≡ one
 status_of_one state budget (stating []) one other is its kept also = its ∙ sym is
 status_of_one state budget (stating (claim ∷ claims)) one other is its kept also = verdict_one state budget one other is its kept also
@@ -87,7 +92,7 @@ status_of_one state budget (asking concept) one other is its kept also = its ∙
 status_of_one state budget (asking_outside cause) one other is its kept also = its ∙ sym is
 
 -- tokens get one status, where no budget is spent
-pub status_one : (state : State) (budget : ℕ) (tokens : List (List ℕ)) (one other : Status) → GetStatus state tokens one
+pub status_one : (state : Stored) (budget : ℕ) (tokens : List (List ℕ)) (one other : Status) → GetStatus state tokens one
     → GetStatus (at_budget state budget) tokens other → is_spent one ≡ false → is_spent other ≡ false → other ≡ one
 status_one state budget tokens one other is its kept also =
     let same : its.meaning ≡ is.meaning = means_one state.grammar state.words tokens its.meaning is.meaning its.means is.means in
@@ -98,21 +103,21 @@ status_one state budget tokens one other is its kept also =
 
 -- the reply to a change is the same
 abbrev pub SaysSame : Request → Reply → Reply → Type 0
-SaysSame (requests.Find word) one other = Unit {0}
-SaysSame requests.Words one other = Unit {0}
-SaysSame (requests.Parse text) one other = Unit {0}
-SaysSame (requests.Read article) one other = Unit {0}
-SaysSame (requests.Axioms article place) one other = Unit {0}
+SaysSame (requests.OnWord word of_word.Find) one other = Unit {0}
+SaysSame (requests.OnWiki of_wiki.Words) one other = Unit {0}
+SaysSame (requests.OnWiki (of_wiki.Parse text)) one other = Unit {0}
+SaysSame (requests.OnArticle article of_article.Read) one other = Unit {0}
+SaysSame (requests.OnArticle article (of_article.Axioms place)) one other = Unit {0}
 SaysSame request one other = other ≡ one
 
 -- the same comes about, and the same is said of a change
-abbrev pub ComesAlike : Request → ℕ → Reply → Reply → State → State → Type 0
+abbrev pub ComesAlike : Request → ℕ → Reply → Reply → Stored → Stored → Type 0
 ComesAlike request budget one other new its_new = SaysSame request one other × (its_new ≡ at_budget new budget)
 
-alike : (budget : ℕ) (state new its_new : State) → new ≡ state → its_new ≡ at_budget state budget → its_new ≡ at_budget new budget
-alike budget state new its_new is its = its ∙ sym (ap (λ (s : State). at_budget s budget) is)
+alike : (budget : ℕ) (state new its_new : Stored) → new ≡ state → its_new ≡ at_budget state budget → its_new ≡ at_budget new budget
+alike budget state new its_new is its = its ∙ sym (ap (λ (s : Stored). at_budget s budget) is)
 
-module _ (old : State) (budget : ℕ) (said its : Reply) (new its_new : State) where
+module _ (old : Stored) (budget : ℕ) (said its : Reply) (new its_new : Stored) where
   word_alike : (kind : Kind) (texts : List (List ℕ)) → AddsWord old kind texts said new → AddsWord (at_budget old budget) kind texts its its_new
       → (its ≡ said) × (its_new ≡ at_budget new budget)
   word_alike kind texts x y = (y.answer ∙ sym x.answer, alike budget _ new its_new x.after y.after)
@@ -219,20 +224,20 @@ module _ (old : State) (budget : ℕ) (said its : Reply) (new its_new : State) w
 
   does_alike : (request : Request) → Does old request said new → Does (at_budget old budget) request its its_new → tells_spent said ≡ false
       → tells_spent its ≡ false → ComesAlike request budget said its new its_new
-  does_alike (requests.Word kind texts) x y kept also = word_alike kind texts x y
-  does_alike (requests.Find text) x y kept also = (tt, alike budget old new its_new x.after y.after)
-  does_alike requests.Words x y kept also = (tt, alike budget old new its_new x.after y.after)
-  does_alike (requests.Parse text) x y kept also = (tt, alike budget old new its_new x.after y.after)
-  does_alike (requests.Reword text texts) x y kept also = reword_alike text texts x y
-  does_alike (requests.Unword text) x y kept also = unword_alike text x y
-  does_alike (requests.Grammar text) x y kept also = grammar_alike text x y
-  does_alike (requests.Add article given text) x y kept also = add_alike article given text x y kept also
-  does_alike (requests.Edit article place text) x y kept also = edit_alike article place text x y kept also
-  does_alike (requests.Remove article place) x y kept also = remove_alike article place x y
-  does_alike (requests.Retract article place) x y kept also = retract_alike article place x y
-  does_alike (requests.Reassert article place) x y kept also = reassert_alike article place x y kept also
-  does_alike (requests.Read article) x y kept also = (tt, alike budget old new its_new x.after y.after)
-  does_alike (requests.Axioms article place) x y kept also = (tt, alike budget old new its_new x.after y.after)
+  does_alike (requests.OnWiki (of_wiki.Word kind texts)) x y kept also = word_alike kind texts x y
+  does_alike (requests.OnWord text of_word.Find) x y kept also = (tt, alike budget old new its_new x.after y.after)
+  does_alike (requests.OnWiki of_wiki.Words) x y kept also = (tt, alike budget old new its_new x.after y.after)
+  does_alike (requests.OnWiki (of_wiki.Parse text)) x y kept also = (tt, alike budget old new its_new x.after y.after)
+  does_alike (requests.OnWord text (of_word.Reword texts)) x y kept also = reword_alike text texts x y
+  does_alike (requests.OnWord text of_word.Unword) x y kept also = unword_alike text x y
+  does_alike (requests.OnWiki (of_wiki.Grammar text)) x y kept also = grammar_alike text x y
+  does_alike (requests.OnArticle article (of_article.Add given text)) x y kept also = add_alike article given text x y kept also
+  does_alike (requests.OnArticle article (of_article.Edit place text)) x y kept also = edit_alike article place text x y kept also
+  does_alike (requests.OnArticle article (of_article.Remove place)) x y kept also = remove_alike article place x y
+  does_alike (requests.OnArticle article (of_article.Retract place)) x y kept also = retract_alike article place x y
+  does_alike (requests.OnArticle article (of_article.Reassert place)) x y kept also = reassert_alike article place x y kept also
+  does_alike (requests.OnArticle article of_article.Read) x y kept also = (tt, alike budget old new its_new x.after y.after)
+  does_alike (requests.OnArticle article (of_article.Axioms place)) x y kept also = (tt, alike budget old new its_new x.after y.after)
   does_alike request x y kept also = absurd x
 
 -- ---- what stands against a request stands against it whatever the budget
@@ -253,20 +258,20 @@ first_alike (a ∷ causes) (b ∷ others) same refusal (inr (none, later)) =
     inr (λ other h. none other (same.1 other h), first_alike causes others same.2 refusal later)
 
 -- a cause that doesn't look at the budget
-abbrev IsBlind : (State → Refusal → Type 0) → Type 0
-IsBlind cause = (state : State) (budget : ℕ) (refusal : Refusal) → cause state refusal → cause (at_budget state budget) refusal
+abbrev IsBlind : (Stored → Refusal → Type 0) → Type 0
+IsBlind cause = (state : Stored) (budget : ℕ) (refusal : Refusal) → cause state refusal → cause (at_budget state budget) refusal
 
 no_word : (text : List ℕ) → IsBlind (λ state. NamesNoWord state text)
 no_word text state budget refusal h = record { none = h.none; told = h.told }
 
-bad_reword : (text : List ℕ) (texts : List (List ℕ)) → IsBlind (λ state. IsBadReword state text texts)
+bad_reword : (text : List ℕ) (texts : List (List ℕ)) → IsBlind (λ state. is_bad_reword state text texts)
 bad_reword text texts state budget refusal h = record { word = h.word; named = h.named; old = h.old; of_word = h.of_word; told = h.told }
 
-told_at : (state : State) (budget : ℕ) (tell : List ℕ → ℕ → Refusal) (word : WordId) (place : ℕ) (refusal : Refusal)
-    → TellsPlace state tell word place refusal → TellsPlace (at_budget state budget) tell word place refusal
+told_at : (state : Stored) (budget : ℕ) (tell : List ℕ → ℕ → Refusal) (word : WordId) (place : ℕ) (refusal : Refusal)
+    → at_place state tell word place refusal → at_place (at_budget state budget) tell word place refusal
 told_at state budget tell word place refusal h = record { form = h.form; spelled = h.spelled; told = h.told }
 
-breaks : (text : List ℕ) (texts : List (List ℕ)) → IsBlind (λ state. BreaksSentence state text texts)
+breaks : (text : List ℕ) (texts : List (List ℕ)) → IsBlind (λ state. breaks_by_forms state text texts)
 breaks text texts state budget refusal h = record {
   word = h.word;
   named = h.named;
@@ -277,16 +282,16 @@ breaks text texts state budget refusal h = record {
   told = told_at state budget _ h.first.word h.first.place refusal h.told;
 }
 
-no_grammar : (text : List ℕ) → IsBlind (λ state. IsNoGrammar text)
+no_grammar : (text : List ℕ) → IsBlind (λ state. is_no_grammar text)
 no_grammar text state budget refusal h = h
 
-bare : (text : List ℕ) → IsBlind (λ state. IsBare text)
+bare : (text : List ℕ) → IsBlind (λ state. is_bare text)
 bare text state budget refusal h = h
 
-has_form : (text : List ℕ) → IsBlind (λ state. HasForm state text)
+has_form : (text : List ℕ) → IsBlind (λ state. has_a_form state text)
 has_form text state budget refusal h = record { g = h.g; is = h.is; told = h.told }
 
-breaks_by : (text : List ℕ) → IsBlind (λ state. BreaksByGrammar state text)
+breaks_by : (text : List ℕ) → IsBlind (λ state. breaks_by_grammar state text)
 breaks_by text state budget refusal h = record {
   g = h.g;
   is = h.is;
@@ -295,7 +300,7 @@ breaks_by text state budget refusal h = record {
   told = told_at state budget _ h.first.word h.first.place refusal h.told;
 }
 
-in_use : (text : List ℕ) → IsBlind (λ state. IsInUse state text)
+in_use : (text : List ℕ) → IsBlind (λ state. is_in_use state text)
 in_use text state budget refusal h = record {
   word = h.word;
   named = h.named;
@@ -306,95 +311,95 @@ in_use text state budget refusal h = record {
   told = told_at state budget _ h.first.word h.first.place refusal h.told;
 }
 
-no_sentence_at : (text : List ℕ) (place : ℕ) → IsBlind (λ state. HasNoSentenceAt state text place)
+no_sentence_at : (text : List ℕ) (place : ℕ) → IsBlind (λ state. has_no_place state text place)
 no_sentence_at text place state budget refusal h = record { article = h.article; named = h.named; past = h.past; told = h.told }
 
-past_end : (text : List ℕ) (given : Option ℕ) → IsBlind (λ state. IsPastEnd state text given)
+past_end : (text : List ℕ) (given : Option ℕ) → IsBlind (λ state. is_past_end state text given)
 past_end text given state budget refusal h =
     record { article = h.article; named = h.named; place = h.place; is = h.is; past = h.past; told = h.told }
 
-full : IsBlind IsFullOfSentences
+full : IsBlind has_no_room
 full state budget refusal h = record { full = h.full; told = h.told }
 
-too_many : (text : List ℕ) → IsBlind (λ state. HasTooManyTokens state text)
+too_many : (text : List ℕ) → IsBlind (λ state. has_too_many_tokens state text)
 too_many text state budget refusal h = record { many = h.many; told = h.told }
 
-last_revision : (text : List ℕ) → IsBlind (λ state. IsAtLastRevision state text)
+last_revision : (text : List ℕ) → IsBlind (λ state. is_at_last_revision state text)
 last_revision text state budget refusal h = record { article = h.article; named = h.named; last = h.last; told = h.told }
 
-no_derivation : (text : List ℕ) → IsBlind (λ state. HasNoDerivation state text)
+no_derivation : (text : List ℕ) → IsBlind (λ state. has_no_derivation state text)
 no_derivation text state budget refusal h = h
 
-bad_status : (may : Status → Bool) (text : List ℕ) (place : ℕ) → IsBlind (λ state. HasBadStatus state may text place)
+bad_status : (may : Status → Bool) (text : List ℕ) (place : ℕ) → IsBlind (λ state. has_bad_status state may text place)
 bad_status may text place state budget refusal h = record { sentence = h.sentence; here = h.here; not_so = h.not_so; told = h.told }
 
 -- causes that don't look at the budget, and those that they are in a wiki
-abbrev AreBlind : List (State → Refusal → Type 0) → Type 0
+abbrev AreBlind : List (Stored → Refusal → Type 0) → Type 0
 AreBlind [] = Unit {0}
 AreBlind (cause ∷ causes) = IsBlind cause × AreBlind causes
 
-abbrev all_in : State → List (State → Refusal → Type 0) → List (Refusal → Type 0)
+abbrev all_in : Stored → List (Stored → Refusal → Type 0) → List (Refusal → Type 0)
 all_in state [] = []
 all_in state (cause ∷ causes) = cause state ∷ all_in state causes
 
-blind_alike : (causes : List (State → Refusal → Type 0)) → AreBlind causes → (old : State) (budget : ℕ)
+blind_alike : (causes : List (Stored → Refusal → Type 0)) → AreBlind causes → (old : Stored) (budget : ℕ)
     → AreAlike (all_in old causes) (all_in (at_budget old budget) causes)
 blind_alike [] blind old budget = tt
 blind_alike (cause ∷ causes) blind old budget = (blind.0 old budget, blind.0 (at_budget old budget) old.budget, blind_alike causes blind.1 old budget)
 
-first_blind : (causes : List (State → Refusal → Type 0)) → AreBlind causes → (old : State) (budget : ℕ) (refusal : Refusal)
+first_blind : (causes : List (Stored → Refusal → Type 0)) → AreBlind causes → (old : Stored) (budget : ℕ) (refusal : Refusal)
     → FirstOf (all_in old causes) refusal → FirstOf (all_in (at_budget old budget) causes) refusal
 first_blind causes blind old budget = first_alike (all_in old causes) (all_in (at_budget old budget) causes) (blind_alike causes blind old budget)
 
-module _ (old : State) (budget : ℕ) where
+module _ (old : Stored) (budget : ℕ) where
   -- what stands against a request stands against it whatever the budget
   pub refuses_alike : (request : Request) (refusal : Refusal) → Refuses old request refusal → Refuses (at_budget old budget) request refusal
-  refuses_alike (requests.Word kind texts) refusal h = h
-  refuses_alike (requests.Find text) refusal h = no_word text old budget refusal h
-  refuses_alike requests.Words refusal h = absurd h
-  refuses_alike (requests.Parse text) refusal h = h
-  refuses_alike (requests.Reword text texts) refusal h =
-      first_blind ((λ s. NamesNoWord s text) ∷ (λ s. IsBadReword s text texts) ∷ (λ s. BreaksSentence s text texts) ∷ [])
+  refuses_alike (requests.OnWiki (of_wiki.Word kind texts)) refusal h = h
+  refuses_alike (requests.OnWord text of_word.Find) refusal h = no_word text old budget refusal h
+  refuses_alike (requests.OnWiki of_wiki.Words) refusal h = absurd h
+  refuses_alike (requests.OnWiki (of_wiki.Parse text)) refusal h = h
+  refuses_alike (requests.OnWord text (of_word.Reword texts)) refusal h =
+      first_blind ((λ s. NamesNoWord s text) ∷ (λ s. is_bad_reword s text texts) ∷ (λ s. breaks_by_forms s text texts) ∷ [])
       (no_word text, (bad_reword text texts, (breaks text texts, tt))) old budget refusal h
-  refuses_alike (requests.Grammar text) refusal h =
-      first_blind ((λ s. IsNoGrammar text) ∷ (λ s. IsBare text) ∷ (λ s. HasForm s text) ∷ (λ s. BreaksByGrammar s text) ∷ [])
+  refuses_alike (requests.OnWiki (of_wiki.Grammar text)) refusal h =
+      first_blind ((λ s. is_no_grammar text) ∷ (λ s. is_bare text) ∷ (λ s. has_a_form s text) ∷ (λ s. breaks_by_grammar s text) ∷ [])
       (no_grammar text, (bare text, (has_form text, (breaks_by text, tt)))) old budget refusal h
-  refuses_alike (requests.Unword text) refusal h =
-      first_blind ((λ s. NamesNoWord s text) ∷ (λ s. IsInUse s text) ∷ []) (no_word text, (in_use text, tt)) old budget refusal h
-  refuses_alike (requests.Add article given text) refusal h =
-      first_blind ((λ s. NamesNoWord s article) ∷ (λ s. IsPastEnd s article given) ∷ IsFullOfSentences ∷ (λ s. HasTooManyTokens s text)
-      ∷ (λ s. IsAtLastRevision s article) ∷ (λ s. HasNoDerivation s text) ∷ [])
+  refuses_alike (requests.OnWord text of_word.Unword) refusal h =
+      first_blind ((λ s. NamesNoWord s text) ∷ (λ s. is_in_use s text) ∷ []) (no_word text, (in_use text, tt)) old budget refusal h
+  refuses_alike (requests.OnArticle article (of_article.Add given text)) refusal h =
+      first_blind ((λ s. NamesNoWord s article) ∷ (λ s. is_past_end s article given) ∷ has_no_room ∷ (λ s. has_too_many_tokens s text)
+      ∷ (λ s. is_at_last_revision s article) ∷ (λ s. has_no_derivation s text) ∷ [])
       (no_word article, (past_end article given, (full, (too_many text, (last_revision article, (no_derivation text, tt)))))) old budget refusal h
-  refuses_alike (requests.Edit article place text) refusal h =
-      first_blind ((λ s. NamesNoWord s article) ∷ (λ s. HasNoSentenceAt s article place) ∷ (λ s. HasTooManyTokens s text)
-      ∷ (λ s. IsAtLastRevision s article) ∷ (λ s. HasNoDerivation s text) ∷ [])
+  refuses_alike (requests.OnArticle article (of_article.Edit place text)) refusal h =
+      first_blind ((λ s. NamesNoWord s article) ∷ (λ s. has_no_place s article place) ∷ (λ s. has_too_many_tokens s text)
+      ∷ (λ s. is_at_last_revision s article) ∷ (λ s. has_no_derivation s text) ∷ [])
       (no_word article, (no_sentence_at article place, (too_many text, (last_revision article, (no_derivation text, tt))))) old budget refusal h
-  refuses_alike (requests.Remove article place) refusal h =
-      first_blind ((λ s. NamesNoWord s article) ∷ (λ s. HasNoSentenceAt s article place) ∷ (λ s. IsAtLastRevision s article) ∷ [])
+  refuses_alike (requests.OnArticle article (of_article.Remove place)) refusal h =
+      first_blind ((λ s. NamesNoWord s article) ∷ (λ s. has_no_place s article place) ∷ (λ s. is_at_last_revision s article) ∷ [])
       (no_word article, (no_sentence_at article place, (last_revision article, tt))) old budget refusal h
-  refuses_alike (requests.Retract article place) refusal h =
-      first_blind ((λ s. NamesNoWord s article) ∷ (λ s. HasNoSentenceAt s article place) ∷ (λ s. IsAtLastRevision s article)
-      ∷ (λ s. HasBadStatus s may_retract article place) ∷ [])
+  refuses_alike (requests.OnArticle article (of_article.Retract place)) refusal h =
+      first_blind ((λ s. NamesNoWord s article) ∷ (λ s. has_no_place s article place) ∷ (λ s. is_at_last_revision s article)
+      ∷ (λ s. has_bad_status s may_retract article place) ∷ [])
       (no_word article, (no_sentence_at article place, (last_revision article, (bad_status may_retract article place, tt)))) old budget refusal h
-  refuses_alike (requests.Reassert article place) refusal h =
-      first_blind ((λ s. NamesNoWord s article) ∷ (λ s. HasNoSentenceAt s article place) ∷ (λ s. IsAtLastRevision s article)
-      ∷ (λ s. HasBadStatus s may_reassert article place) ∷ [])
+  refuses_alike (requests.OnArticle article (of_article.Reassert place)) refusal h =
+      first_blind ((λ s. NamesNoWord s article) ∷ (λ s. has_no_place s article place) ∷ (λ s. is_at_last_revision s article)
+      ∷ (λ s. has_bad_status s may_reassert article place) ∷ [])
       (no_word article, (no_sentence_at article place, (last_revision article, (bad_status may_reassert article place, tt)))) old budget refusal h
-  refuses_alike (requests.Read article) refusal h = no_word article old budget refusal h
-  refuses_alike (requests.Axioms article place) refusal h =
-      first_blind ((λ s. NamesNoWord s article) ∷ (λ s. HasNoSentenceAt s article place) ∷ [])
+  refuses_alike (requests.OnArticle article of_article.Read) refusal h = no_word article old budget refusal h
+  refuses_alike (requests.OnArticle article (of_article.Axioms place)) refusal h =
+      first_blind ((λ s. NamesNoWord s article) ∷ (λ s. has_no_place s article place) ∷ [])
       (no_word article, (no_sentence_at article place, tt)) old budget refusal h
   refuses_alike request refusal h = absurd h
 
 -- ---- one step
 
 -- both are refused, or both are done and come to the same
-abbrev pub BothAlike : State → ℕ → Request → Reply → Reply → State → State → Type 0
+abbrev pub BothAlike : Stored → ℕ → Request → Reply → Reply → Stored → Stored → Type 0
 BothAlike old budget request said its new its_new =
     (IsRefused old request said new × IsRefused (at_budget old budget) request its its_new)
     ⊎ ((IsDone old request said new × IsDone (at_budget old budget) request its its_new) × ComesAlike request budget said its new its_new)
 
-pub both_alike : (old : State) (budget : ℕ) (request : Request) (said its : Reply) (new its_new : State) → Step old request said new
+pub both_alike : (old : Stored) (budget : ℕ) (request : Request) (said its : Reply) (new its_new : Stored) → Step old request said new
     → Step (at_budget old budget) request its its_new → tells_spent said ≡ false → tells_spent its ≡ false
     → BothAlike old budget request said its new its_new
 both_alike old budget request said its new its_new step its_step kept also_kept =
@@ -411,7 +416,7 @@ both_alike old budget request said its new its_new step its_step kept also_kept 
         inr ((done, its_done), does_alike old budget said its new its_new request done.1 its_done.1 kept also_kept)
 
 -- Words and sentences are a function of what is asked, whatever the budgets, where none is spent.
-pub store_one : (old : State) (budget : ℕ) (request : Request) (said its : Reply) (new its_new : State) → Step old request said new
+pub store_one : (old : Stored) (budget : ℕ) (request : Request) (said its : Reply) (new its_new : Stored) → Step old request said new
     → Step (at_budget old budget) request its its_new → tells_spent said ≡ false → tells_spent its ≡ false → its_new ≡ at_budget new budget
 store_one old budget request said its new its_new step its_step kept also_kept =
     by (both_alike old budget request said its new its_new step its_step kept also_kept)

@@ -9,13 +9,17 @@ use Rattle.wiki_talk.specs.declared.replies.Reply.{Reply}
 use Rattle.wiki_talk.specs.declared.replies.Reply.TheVariants as replies
 use Rattle.wiki_talk.specs.declared.requests.Request.{Request}
 use Rattle.wiki_talk.specs.declared.requests.Request.TheVariants as requests
+use Rattle.wiki_talk.specs.declared.requests.WikiRequest.TheVariants as of_wiki
+use Rattle.wiki_talk.specs.declared.requests.WordRequest.TheVariants as of_word
+use Rattle.wiki_talk.specs.declared.requests.ArticleRequest.TheVariants as of_article
+use Rattle.wiki_talk.specs.declared.requests.SessionRequest.TheVariants as of_session
 use Rattle.articles.specs.declared.sentences.Sentence.{Sentence}
 use Rattle.articles.specs.declared.article.Article.{Article}
 use Rattle.articles.specs.Articles.{is_of, changed, with_change, without_article}
-use Rattle.sessions.specs.Sessions.{PlainSession}
-use Rattle.wiki_parts.specs.State as parts
+use Rattle.plain_wiki.specs.Sessions.{PlainSession}
+use Rattle.plain_wiki.specs.State.{Stored}
 use Rattle.wiki_store.specs.Step as store
-use Rattle.wiki_core.specs.State.{IsOnArticle}
+use Rattle.wiki_core.specs.Holding.{IsOnArticle}
 use Rattle.wiki_core.specs.Keeping.{changes_words}
 use Rattle.wiki_core.proofs.KeyLaws.{changed_at, find_changed, find_filter}
 
@@ -61,54 +65,54 @@ go_on_ended old word session other on = record {
     stays a is = ap (λ (n : ℕ). not (n == word.0)) (eqb-true a.word.0 session.article.0 is) ∙ ap not other
 
 -- what a step that changes no words leaves of words, and of the articles that sessions are on
-pub record KeepsWords (old new : parts.State) : Type 0 where
+pub record KeepsWords (old new : Stored) : Type 0 where
   pub grammar : new.grammar ≡ old.grammar
   pub words : new.words ≡ old.words
   pub on : GoOn old.articles new.articles
 
-pub keeps_same : (old new : parts.State) → new ≡ old → KeepsWords old new
+pub keeps_same : (old new : Stored) → new ≡ old → KeepsWords old new
 keeps_same old new same = record {
-  grammar = ap (λ (s : parts.State). s.grammar) same;
-  words = ap (λ (s : parts.State). s.words) same;
-  on = go_on_same old.articles new.articles (ap (λ (s : parts.State). s.articles) same);
+  grammar = ap (λ (s : Stored). s.grammar) same;
+  words = ap (λ (s : Stored). s.words) same;
+  on = go_on_same old.articles new.articles (ap (λ (s : Stored). s.articles) same);
 }
 
-pub keeps_changed : (old new : parts.State) (word : WordId) (change : List Sentence → List Sentence)
+pub keeps_changed : (old new : Stored) (word : WordId) (change : List Sentence → List Sentence)
     → new ≡ record old { articles = with_change old.articles word change } → KeepsWords old new
 keeps_changed old new word change after =
     subst (KeepsWords old) (sym after) (record { grammar = refl; words = refl; on = go_on_changed old.articles word change })
 
-does_keeps : (old new : parts.State) (request : Request) (reply : Reply) → changes_words request ≡ false → store.Does old request reply new → KeepsWords old new
-does_keeps old new (requests.Word kind forms) reply no_words does = absurd (false≢true (sym no_words))
-does_keeps old new (requests.Find word) reply no_words does = keeps_same old new does.after
-does_keeps old new requests.Words reply no_words does = keeps_same old new does.after
-does_keeps old new (requests.Parse text) reply no_words does = keeps_same old new does.after
-does_keeps old new (requests.Reword form forms) reply no_words does = absurd (false≢true (sym no_words))
-does_keeps old new (requests.Unword form) reply no_words does = absurd (false≢true (sym no_words))
-does_keeps old new (requests.Grammar text) reply no_words does = absurd (false≢true (sym no_words))
-does_keeps old new (requests.Add article given text) reply no_words does = keeps_changed old new does.word _ does.after
-does_keeps old new (requests.Edit article place text) reply no_words does = keeps_changed old new does.word _ does.after
-does_keeps old new (requests.Remove article place) reply no_words does = keeps_changed old new does.word _ does.after
-does_keeps old new (requests.Retract article place) reply no_words does = keeps_changed old new does.word _ does.after
-does_keeps old new (requests.Reassert article place) reply no_words does = keeps_changed old new does.word _ does.after
-does_keeps old new (requests.Read article) reply no_words does = keeps_same old new does.after
-does_keeps old new (requests.Axioms article place) reply no_words does = keeps_same old new does.after
-does_keeps old new (requests.Begin article) reply no_words does = absurd does
-does_keeps old new (requests.Put session text) reply no_words does = absurd does
-does_keeps old new (requests.Back session) reply no_words does = absurd does
-does_keeps old new (requests.Menu session) reply no_words does = absurd does
-does_keeps old new (requests.Commit session) reply no_words does = absurd does
-does_keeps old new (requests.Refresh session) reply no_words does = absurd does
-does_keeps old new (requests.Drop session) reply no_words does = absurd does
+does_keeps : (old new : Stored) (request : Request) (reply : Reply) → changes_words request ≡ false → store.Does old request reply new → KeepsWords old new
+does_keeps old new (requests.OnWiki (of_wiki.Word kind forms)) reply no_words does = absurd (false≢true (sym no_words))
+does_keeps old new (requests.OnWord word of_word.Find) reply no_words does = keeps_same old new does.after
+does_keeps old new (requests.OnWiki of_wiki.Words) reply no_words does = keeps_same old new does.after
+does_keeps old new (requests.OnWiki (of_wiki.Parse text)) reply no_words does = keeps_same old new does.after
+does_keeps old new (requests.OnWord form (of_word.Reword forms)) reply no_words does = absurd (false≢true (sym no_words))
+does_keeps old new (requests.OnWord form of_word.Unword) reply no_words does = absurd (false≢true (sym no_words))
+does_keeps old new (requests.OnWiki (of_wiki.Grammar text)) reply no_words does = absurd (false≢true (sym no_words))
+does_keeps old new (requests.OnArticle article (of_article.Add given text)) reply no_words does = keeps_changed old new does.word _ does.after
+does_keeps old new (requests.OnArticle article (of_article.Edit place text)) reply no_words does = keeps_changed old new does.word _ does.after
+does_keeps old new (requests.OnArticle article (of_article.Remove place)) reply no_words does = keeps_changed old new does.word _ does.after
+does_keeps old new (requests.OnArticle article (of_article.Retract place)) reply no_words does = keeps_changed old new does.word _ does.after
+does_keeps old new (requests.OnArticle article (of_article.Reassert place)) reply no_words does = keeps_changed old new does.word _ does.after
+does_keeps old new (requests.OnArticle article of_article.Read) reply no_words does = keeps_same old new does.after
+does_keeps old new (requests.OnArticle article (of_article.Axioms place)) reply no_words does = keeps_same old new does.after
+does_keeps old new (requests.OnArticle article of_article.Open) reply no_words does = absurd does
+does_keeps old new (requests.OnSession session (of_session.Type text)) reply no_words does = absurd does
+does_keeps old new (requests.OnSession session of_session.Back) reply no_words does = absurd does
+does_keeps old new (requests.OnSession session of_session.Menu) reply no_words does = absurd does
+does_keeps old new (requests.OnSession session of_session.Commit) reply no_words does = absurd does
+does_keeps old new (requests.OnSession session of_session.Refresh) reply no_words does = absurd does
+does_keeps old new (requests.OnSession session of_session.Drop) reply no_words does = absurd does
 
 -- a step is a refusal, which changes nothing, or does what is asked
-pub refused_or_done : (old new : parts.State) (request : Request) (reply : Reply) → store.Step old request reply new
+pub refused_or_done : (old new : Stored) (request : Request) (reply : Reply) → store.Step old request reply new
     → ((refusal : Refusal) × (reply ≡ replies.Refused refusal) × (new ≡ old)) ⊎ (store.IsFree old request × store.Does old request reply new)
 refused_or_done old new request (replies.Refused refusal) step = inl (refusal, refl, step.1)
 refused_or_done old new request reply step = inr step
 
 -- a step that changes no words keeps them
-pub step_keeps : (old new : parts.State) (request : Request) (reply : Reply) → changes_words request ≡ false → store.Step old request reply new
+pub step_keeps : (old new : Stored) (request : Request) (reply : Reply) → changes_words request ≡ false → store.Step old request reply new
     → KeepsWords old new
 step_keeps old new request reply no_words step = by_case (refused_or_done old new request reply step)
   where

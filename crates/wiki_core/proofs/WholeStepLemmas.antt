@@ -16,22 +16,29 @@ use Rattle.wiki_talk.specs.declared.replies.Reply.{Reply}
 use Rattle.wiki_talk.specs.declared.replies.Reply.TheVariants as replies
 use Rattle.wiki_talk.specs.declared.requests.Request.{Request}
 use Rattle.wiki_talk.specs.declared.requests.Request.TheVariants as requests
+use Rattle.wiki_talk.specs.declared.requests.WikiRequest.TheVariants as of_wiki
+use Rattle.wiki_talk.specs.declared.requests.WordRequest.TheVariants as of_word
+use Rattle.wiki_talk.specs.declared.requests.ArticleRequest.TheVariants as of_article
+use Rattle.wiki_talk.specs.declared.requests.SessionRequest.TheVariants as of_session
 use Rattle.articles.specs.declared.article.Article.{Article}
 use Rattle.articles.specs.Articles.{article_of}
-use Rattle.sessions.specs.Sessions.{PlainSession, new_session, with_change, with_revision, without_article, IsRebasedSession, AreRebased}
-use Rattle.wiki_parts.specs.State as parts
-use Rattle.wiki_parts.specs.Knowledge.{GetStatus}
-use Rattle.wiki_parts.specs.Refusing.{FirstOf, NamesNoWord, IsFullOfSentences}
-use Rattle.wiki_store.specs.Appending.{with_appended}
-use Rattle.wiki_core.specs.State.{State}
-use Rattle.wiki_core.specs.Causes.{NamesNoSession, IsFullOfSessions, IsOutOfNumbers, IsFullOfTokens, IsNotOffered, HasNoToken, IsAtLastChange, IsStale, IsUnfinished}
-use Rattle.wiki_core.specs.Step.{Step, StepsPages, StepsSession, CarriesSessions, AreRebasedTo, EndOnArticle, Refuses, IsFree, Does, OpensSession, CommitsSession, RefreshesSession, begun_again, numbered}
+use Rattle.plain_wiki.specs.Sessions.{PlainSession, new_session, with_change, with_revision, without_article, IsRebasedSession, AreRebased}
+use Rattle.plain_wiki.specs.State.{Stored}
+use Rattle.plain_wiki.specs.Knowledge.{GetStatus}
+use Rattle.plain_wiki.specs.Causes.{FirstOf, NamesNoWord, has_no_room, is_full, is_not_offered, has_no_token, is_at_last_revision, is_stale, is_unfinished}
+use Rattle.plain_wiki.specs.Doing.{with_appended, OpensSession, CommitsSession, RefreshesSession, begun_again}
+use Rattle.plain_wiki.specs.State.{State}
+use Rattle.wiki_core.specs.Causes.{NamesNoSession}
+use Rattle.plain_wiki.specs.Step.{Step, AreRebasedTo, Does}
+use Rattle.wiki_core.specs.Step.{StepsPages, StepsSession, CarriesSessions, EndOnArticle}
+use Rattle.plain_wiki.specs.Against.{Refuses, IsFree}
+use Rattle.plain_wiki.specs.Places.{numbered}
 use Rattle.wiki_core.specs.Journaled.{tells_spent}
 use Rattle.wiki_core.proofs.OneStepLemmas.{at_budget, status_one, both_alike, BothAlike, store_one, AreAlike, first_alike}
 
 -- the same wiki with its sessions, where a search may take so many steps
 abbrev pub state_at : State → ℕ → State
-state_at state budget = record state { pages = at_budget state.pages budget }
+state_at state budget = record state { stored = at_budget state.stored budget }
 
 -- ---- sessions over other words
 
@@ -78,90 +85,91 @@ rebased_one g words (s ∷ sessions) (n ∷ one) (o ∷ other) is its =
 
 -- ---- requests on words and sentences
 
-state_is : (a b : State) → a.pages ≡ b.pages → a.sessions ≡ b.sessions → a.last ≡ b.last → a ≡ b
+state_is : (a b : State) → a.stored ≡ b.stored → a.sessions ≡ b.sessions → a.last ≡ b.last → a ≡ b
 state_is a b pages sessions last =
-    ap (λ (p : parts.State). record { pages = p; sessions = a.sessions; last = a.last }) pages
-    ∙ ap (λ (ss : List PlainSession). record { pages = b.pages; sessions = ss; last = a.last }) sessions
-    ∙ ap (λ (n : ℕ). record { pages = b.pages; sessions = b.sessions; last = n }) last
+    ap (λ (p : Stored). record { stored = p; sessions = a.sessions; last = a.last }) pages
+    ∙ ap (λ (ss : List PlainSession). record { stored = b.stored; sessions = ss; last = a.last }) sessions
+    ∙ ap (λ (n : ℕ). record { stored = b.stored; sessions = b.sessions; last = n }) last
 
 module _ (old : State) (budget : ℕ) (said its : Reply) (new its_new : State) where
   -- sessions that are rebased to like pages
-  rebased_alike : its_new.pages ≡ at_budget new.pages budget → (sessions one other : List PlainSession) → AreRebasedTo new.pages sessions one
-      → AreRebasedTo its_new.pages sessions other → other ≡ one
+  rebased_alike : its_new.stored ≡ at_budget new.stored budget → (sessions one other : List PlainSession) → AreRebasedTo new.stored sessions one
+      → AreRebasedTo its_new.stored sessions other → other ≡ one
   rebased_alike pages sessions one other is its =
-      rebased_one new.pages.grammar new.pages.words sessions one other is
-      (subst (λ (p : parts.State). AreRebasedTo p sessions other) pages its)
+      rebased_one new.stored.grammar new.stored.words sessions one other is
+      (subst (λ (p : Stored). AreRebasedTo p sessions other) pages its)
 
   -- sessions that stay
-  kept_alike : its_new.pages ≡ at_budget new.pages budget → new.sessions ≡ old.sessions → its_new.sessions ≡ old.sessions → its_new.sessions ≡ new.sessions
+  kept_alike : its_new.stored ≡ at_budget new.stored budget → new.sessions ≡ old.sessions → its_new.sessions ≡ old.sessions → its_new.sessions ≡ new.sessions
   kept_alike pages is its = its ∙ sym is
 
   -- what becomes of sessions, where both are refused or both are done
-  sessions_alike : (request : Request) → BothAlike old.pages budget request said its new.pages its_new.pages
-      → its_new.pages ≡ at_budget new.pages budget → CarriesSessions old request said new → CarriesSessions (state_at old budget) request its its_new
+  sessions_alike : (request : Request) → BothAlike old.stored budget request said its new.stored its_new.stored
+      → its_new.stored ≡ at_budget new.stored budget → CarriesSessions old request said new → CarriesSessions (state_at old budget) request its its_new
       → its_new.sessions ≡ new.sessions
-  sessions_alike (requests.Word kind forms) (inl (refused, its_refused)) pages carries its_carries =
+  sessions_alike (requests.OnWiki (of_wiki.Word kind forms)) (inl (refused, its_refused)) pages carries its_carries =
       kept_alike pages
-      (subst (λ (reply : Reply). CarriesSessions old (requests.Word kind forms) reply new) refused.1 carries)
-      (subst (λ (reply : Reply). CarriesSessions (state_at old budget) (requests.Word kind forms) reply its_new) its_refused.1 its_carries)
-  sessions_alike (requests.Word kind forms) (inr (done, comes)) pages carries its_carries =
+      (subst (λ (reply : Reply). CarriesSessions old (requests.OnWiki (of_wiki.Word kind forms)) reply new) refused.1 carries)
+      (subst (λ (reply : Reply). CarriesSessions (state_at old budget) (requests.OnWiki (of_wiki.Word kind forms)) reply its_new) its_refused.1 its_carries)
+  sessions_alike (requests.OnWiki (of_wiki.Word kind forms)) (inr (done, comes)) pages carries its_carries =
       rebased_alike pages old.sessions new.sessions its_new.sessions
-      (subst (λ (reply : Reply). CarriesSessions old (requests.Word kind forms) reply new) done.0.1.answer carries)
-      (subst (λ (reply : Reply). CarriesSessions (state_at old budget) (requests.Word kind forms) reply its_new) done.1.1.answer its_carries)
-  sessions_alike (requests.Reword form forms) (inl (refused, its_refused)) pages carries its_carries =
+      (subst (λ (reply : Reply). CarriesSessions old (requests.OnWiki (of_wiki.Word kind forms)) reply new) done.0.1.answer carries)
+      (subst (λ (reply : Reply). CarriesSessions (state_at old budget) (requests.OnWiki (of_wiki.Word kind forms)) reply its_new) done.1.1.answer its_carries)
+  sessions_alike (requests.OnWord form (of_word.Reword forms)) (inl (refused, its_refused)) pages carries its_carries =
       kept_alike pages
-      (subst (λ (reply : Reply). CarriesSessions old (requests.Reword form forms) reply new) refused.1 carries)
-      (subst (λ (reply : Reply). CarriesSessions (state_at old budget) (requests.Reword form forms) reply its_new) its_refused.1 its_carries)
-  sessions_alike (requests.Reword form forms) (inr (done, comes)) pages carries its_carries =
+      (subst (λ (reply : Reply). CarriesSessions old (requests.OnWord form (of_word.Reword forms)) reply new) refused.1 carries)
+      (subst (λ (reply : Reply). CarriesSessions (state_at old budget) (requests.OnWord form (of_word.Reword forms)) reply its_new) its_refused.1 its_carries)
+  sessions_alike (requests.OnWord form (of_word.Reword forms)) (inr (done, comes)) pages carries its_carries =
       rebased_alike pages old.sessions new.sessions its_new.sessions
-      (subst (λ (reply : Reply). CarriesSessions old (requests.Reword form forms) reply new) done.0.1.answer carries)
-      (subst (λ (reply : Reply). CarriesSessions (state_at old budget) (requests.Reword form forms) reply its_new) done.1.1.answer its_carries)
-  sessions_alike (requests.Grammar text) (inl (refused, its_refused)) pages carries its_carries =
+      (subst (λ (reply : Reply). CarriesSessions old (requests.OnWord form (of_word.Reword forms)) reply new) done.0.1.answer carries)
+      (subst (λ (reply : Reply). CarriesSessions (state_at old budget) (requests.OnWord form (of_word.Reword forms)) reply its_new) done.1.1.answer its_carries)
+  sessions_alike (requests.OnWiki (of_wiki.Grammar text)) (inl (refused, its_refused)) pages carries its_carries =
       kept_alike pages
-      (subst (λ (reply : Reply). CarriesSessions old (requests.Grammar text) reply new) refused.1 carries)
-      (subst (λ (reply : Reply). CarriesSessions (state_at old budget) (requests.Grammar text) reply its_new) its_refused.1 its_carries)
-  sessions_alike (requests.Grammar text) (inr (done, comes)) pages carries its_carries =
+      (subst (λ (reply : Reply). CarriesSessions old (requests.OnWiki (of_wiki.Grammar text)) reply new) refused.1 carries)
+      (subst (λ (reply : Reply). CarriesSessions (state_at old budget) (requests.OnWiki (of_wiki.Grammar text)) reply its_new) its_refused.1 its_carries)
+  sessions_alike (requests.OnWiki (of_wiki.Grammar text)) (inr (done, comes)) pages carries its_carries =
       rebased_alike pages old.sessions new.sessions its_new.sessions
-      (subst (λ (reply : Reply). CarriesSessions old (requests.Grammar text) reply new) done.0.1.answer carries)
-      (subst (λ (reply : Reply). CarriesSessions (state_at old budget) (requests.Grammar text) reply its_new) done.1.1.answer its_carries)
-  sessions_alike (requests.Unword form) (inl (refused, its_refused)) pages carries its_carries =
+      (subst (λ (reply : Reply). CarriesSessions old (requests.OnWiki (of_wiki.Grammar text)) reply new) done.0.1.answer carries)
+      (subst (λ (reply : Reply). CarriesSessions (state_at old budget) (requests.OnWiki (of_wiki.Grammar text)) reply its_new) done.1.1.answer its_carries)
+  sessions_alike (requests.OnWord form of_word.Unword) (inl (refused, its_refused)) pages carries its_carries =
       kept_alike pages
-      (subst (λ (reply : Reply). CarriesSessions old (requests.Unword form) reply new) refused.1 carries)
-      (subst (λ (reply : Reply). CarriesSessions (state_at old budget) (requests.Unword form) reply its_new) its_refused.1 its_carries)
-  sessions_alike (requests.Unword form) (inr (done, comes)) pages carries its_carries =
-      let is : EndOnArticle old form new = subst (λ (reply : Reply). CarriesSessions old (requests.Unword form) reply new) done.0.1.answer carries in
+      (subst (λ (reply : Reply). CarriesSessions old (requests.OnWord form of_word.Unword) reply new) refused.1 carries)
+      (subst (λ (reply : Reply). CarriesSessions (state_at old budget) (requests.OnWord form of_word.Unword) reply its_new) its_refused.1 its_carries)
+  sessions_alike (requests.OnWord form of_word.Unword) (inr (done, comes)) pages carries its_carries =
+      let is : EndOnArticle old form new =
+      subst (λ (reply : Reply). CarriesSessions old (requests.OnWord form of_word.Unword) reply new) done.0.1.answer carries in
       let also : EndOnArticle (state_at old budget) form its_new =
-      subst (λ (reply : Reply). CarriesSessions (state_at old budget) (requests.Unword form) reply its_new) done.1.1.answer its_carries in
+      subst (λ (reply : Reply). CarriesSessions (state_at old budget) (requests.OnWord form of_word.Unword) reply its_new) done.1.1.answer its_carries in
       let word : also.word ≡ is.word = same_Some also.word is.word (sym also.named ∙ is.named) in
       also.ended ∙ ap (λ (w : WordId). without_article also.rebased w) word
       ∙ ap (λ (ss : List PlainSession). without_article ss is.word)
       (rebased_alike pages old.sessions is.rebased also.rebased is.rebases also.rebases)
       ∙ sym is.ended
-  sessions_alike (requests.Find word) both pages carries its_carries = kept_alike pages carries its_carries
-  sessions_alike requests.Words both pages carries its_carries = kept_alike pages carries its_carries
-  sessions_alike (requests.Parse text) both pages carries its_carries = kept_alike pages carries its_carries
-  sessions_alike (requests.Add article given text) both pages carries its_carries = kept_alike pages carries its_carries
-  sessions_alike (requests.Edit article place text) both pages carries its_carries = kept_alike pages carries its_carries
-  sessions_alike (requests.Remove article place) both pages carries its_carries = kept_alike pages carries its_carries
-  sessions_alike (requests.Retract article place) both pages carries its_carries = kept_alike pages carries its_carries
-  sessions_alike (requests.Reassert article place) both pages carries its_carries = kept_alike pages carries its_carries
-  sessions_alike (requests.Read article) both pages carries its_carries = kept_alike pages carries its_carries
-  sessions_alike (requests.Axioms article place) both pages carries its_carries = kept_alike pages carries its_carries
-  sessions_alike (requests.Begin article) both pages carries its_carries = kept_alike pages carries its_carries
-  sessions_alike (requests.Put session text) both pages carries its_carries = kept_alike pages carries its_carries
-  sessions_alike (requests.Back session) both pages carries its_carries = kept_alike pages carries its_carries
-  sessions_alike (requests.Menu session) both pages carries its_carries = kept_alike pages carries its_carries
-  sessions_alike (requests.Commit session) both pages carries its_carries = kept_alike pages carries its_carries
-  sessions_alike (requests.Refresh session) both pages carries its_carries = kept_alike pages carries its_carries
-  sessions_alike (requests.Drop session) both pages carries its_carries = kept_alike pages carries its_carries
+  sessions_alike (requests.OnWord word of_word.Find) both pages carries its_carries = kept_alike pages carries its_carries
+  sessions_alike (requests.OnWiki of_wiki.Words) both pages carries its_carries = kept_alike pages carries its_carries
+  sessions_alike (requests.OnWiki (of_wiki.Parse text)) both pages carries its_carries = kept_alike pages carries its_carries
+  sessions_alike (requests.OnArticle article (of_article.Add given text)) both pages carries its_carries = kept_alike pages carries its_carries
+  sessions_alike (requests.OnArticle article (of_article.Edit place text)) both pages carries its_carries = kept_alike pages carries its_carries
+  sessions_alike (requests.OnArticle article (of_article.Remove place)) both pages carries its_carries = kept_alike pages carries its_carries
+  sessions_alike (requests.OnArticle article (of_article.Retract place)) both pages carries its_carries = kept_alike pages carries its_carries
+  sessions_alike (requests.OnArticle article (of_article.Reassert place)) both pages carries its_carries = kept_alike pages carries its_carries
+  sessions_alike (requests.OnArticle article of_article.Read) both pages carries its_carries = kept_alike pages carries its_carries
+  sessions_alike (requests.OnArticle article (of_article.Axioms place)) both pages carries its_carries = kept_alike pages carries its_carries
+  sessions_alike (requests.OnArticle article of_article.Open) both pages carries its_carries = kept_alike pages carries its_carries
+  sessions_alike (requests.OnSession session (of_session.Type text)) both pages carries its_carries = kept_alike pages carries its_carries
+  sessions_alike (requests.OnSession session of_session.Back) both pages carries its_carries = kept_alike pages carries its_carries
+  sessions_alike (requests.OnSession session of_session.Menu) both pages carries its_carries = kept_alike pages carries its_carries
+  sessions_alike (requests.OnSession session of_session.Commit) both pages carries its_carries = kept_alike pages carries its_carries
+  sessions_alike (requests.OnSession session of_session.Refresh) both pages carries its_carries = kept_alike pages carries its_carries
+  sessions_alike (requests.OnSession session of_session.Drop) both pages carries its_carries = kept_alike pages carries its_carries
 
   pages_alike : (request : Request) → StepsPages old request said new → StepsPages (state_at old budget) request its its_new → tells_spent said ≡ false
       → tells_spent its ≡ false → its_new ≡ state_at new budget
   pages_alike request step its_step kept also_kept =
-      let pages : its_new.pages ≡ at_budget new.pages budget =
-      store_one old.pages budget request said its new.pages its_new.pages step.pages its_step.pages kept also_kept in
+      let pages : its_new.stored ≡ at_budget new.stored budget =
+      store_one old.stored budget request said its new.stored its_new.stored step.stored its_step.stored kept also_kept in
       state_is its_new (state_at new budget) pages
-      (sessions_alike request (both_alike old.pages budget request said its new.pages its_new.pages step.pages its_step.pages kept also_kept) pages
+      (sessions_alike request (both_alike old.stored budget request said its new.stored its_new.stored step.stored its_step.stored kept also_kept) pages
       step.sessions its_step.sessions)
       (its_step.last ∙ sym step.last)
 
@@ -171,39 +179,39 @@ module _ (old : State) (budget : ℕ) (said its : Reply) (new its_new : State) w
 abbrev IsBlind : (State → Refusal → Type 0) → Type 0
 IsBlind cause = (state : State) (budget : ℕ) (refusal : Refusal) → cause state refusal → cause (state_at state budget) refusal
 
-no_word : (text : List ℕ) → IsBlind (λ state. NamesNoWord state.pages text)
+no_word : (text : List ℕ) → IsBlind (λ state. NamesNoWord state.stored text)
 no_word text state budget refusal h = record { none = h.none; told = h.told }
 
-full_of_sentences : IsBlind (λ state. IsFullOfSentences state.pages)
+full_of_sentences : IsBlind (λ state. has_no_room state.stored)
 full_of_sentences state budget refusal h = record { full = h.full; told = h.told }
 
 no_session : (number : ℕ) → IsBlind (λ state. NamesNoSession state number)
 no_session number state budget refusal h = record { none = h.none; told = h.told }
 
-full_of_sessions : IsBlind IsFullOfSessions
+full_of_sessions : IsBlind is_full
 full_of_sessions state budget refusal h = record { full = h.full; told = h.told }
 
-out_of_numbers : IsBlind IsOutOfNumbers
+out_of_numbers : IsBlind is_full
 out_of_numbers state budget refusal h = record { last = h.last; told = h.told }
 
-full_of_tokens : (number : ℕ) → IsBlind (λ state. IsFullOfTokens state number)
+full_of_tokens : (number : ℕ) → IsBlind (λ state. is_full state number)
 full_of_tokens number state budget refusal h = record { session = h.session; named = h.named; full = h.full; told = h.told }
 
-not_offered : (number : ℕ) (text : List ℕ) → IsBlind (λ state. IsNotOffered state number text)
+not_offered : (number : ℕ) (text : List ℕ) → IsBlind (λ state. is_not_offered state number text)
 not_offered number text state budget refusal h = record { session = h.session; named = h.named; not_there = h.not_there; told = h.told }
 
-no_token : (number : ℕ) → IsBlind (λ state. HasNoToken state number)
+no_token : (number : ℕ) → IsBlind (λ state. has_no_token state number)
 no_token number state budget refusal h = record { session = h.session; named = h.named; none = h.none; told = h.told }
 
-last_change : (number : ℕ) → IsBlind (λ state. IsAtLastChange state number)
+last_change : (number : ℕ) → IsBlind (λ state. is_at_last_revision state number)
 last_change number state budget refusal h =
     record { session = h.session; named = h.named; article = h.article; on = h.on; last = h.last; told = h.told }
 
-stale : (number : ℕ) → IsBlind (λ state. IsStale state number)
+stale : (number : ℕ) → IsBlind (λ state. is_stale state number)
 stale number state budget refusal h =
     record { session = h.session; named = h.named; article = h.article; on = h.on; later = h.later; told = h.told }
 
-unfinished : (number : ℕ) → IsBlind (λ state. IsUnfinished state number)
+unfinished : (number : ℕ) → IsBlind (λ state. is_unfinished state number)
 unfinished number state budget refusal h =
     record { session = h.session; named = h.named; none = h.none; menu = h.menu; follows = h.follows; told = h.told }
 
@@ -219,7 +227,7 @@ blind_alike : (causes : List (State → Refusal → Type 0)) → AreBlind causes
     → AreAlike (all_in old causes) (all_in (state_at old budget) causes)
 blind_alike [] blind old budget = tt
 blind_alike (cause ∷ causes) blind old budget =
-    (blind.0 old budget, blind.0 (state_at old budget) old.pages.budget, blind_alike causes blind.1 old budget)
+    (blind.0 old budget, blind.0 (state_at old budget) old.stored.budget, blind_alike causes blind.1 old budget)
 
 first_blind : (causes : List (State → Refusal → Type 0)) → AreBlind causes → (old : State) (budget : ℕ) (refusal : Refusal)
     → FirstOf (all_in old causes) refusal → FirstOf (all_in (state_at old budget) causes) refusal
@@ -227,21 +235,21 @@ first_blind causes blind old budget = first_alike (all_in old causes) (all_in (s
 
 module _ (old : State) (budget : ℕ) where
   pub refuses_alike : (request : Request) (refusal : Refusal) → Refuses old request refusal → Refuses (state_at old budget) request refusal
-  refuses_alike (requests.Begin article) refusal h =
-      first_blind ((λ s. NamesNoWord s.pages article) ∷ IsFullOfSessions ∷ IsOutOfNumbers ∷ [])
+  refuses_alike (requests.OnArticle article of_article.Open) refusal h =
+      first_blind ((λ s. NamesNoWord s.stored article) ∷ is_full ∷ is_full ∷ [])
       (no_word article, (full_of_sessions, (out_of_numbers, tt))) old budget refusal h
-  refuses_alike (requests.Put session text) refusal h =
-      first_blind ((λ s. NamesNoSession s session) ∷ (λ s. IsFullOfTokens s session) ∷ (λ s. IsNotOffered s session text) ∷ [])
+  refuses_alike (requests.OnSession session (of_session.Type text)) refusal h =
+      first_blind ((λ s. NamesNoSession s session) ∷ (λ s. is_full s session) ∷ (λ s. is_not_offered s session text) ∷ [])
       (no_session session, (full_of_tokens session, (not_offered session text, tt))) old budget refusal h
-  refuses_alike (requests.Back session) refusal h =
-      first_blind ((λ s. NamesNoSession s session) ∷ (λ s. HasNoToken s session) ∷ []) (no_session session, (no_token session, tt)) old budget refusal h
-  refuses_alike (requests.Menu session) refusal h = no_session session old budget refusal h
-  refuses_alike (requests.Commit session) refusal h =
-      first_blind ((λ s. NamesNoSession s session) ∷ (λ s. IsFullOfSentences s.pages) ∷ (λ s. IsAtLastChange s session) ∷ (λ s. IsStale s session)
-      ∷ (λ s. IsUnfinished s session) ∷ [])
+  refuses_alike (requests.OnSession session of_session.Back) refusal h =
+      first_blind ((λ s. NamesNoSession s session) ∷ (λ s. has_no_token s session) ∷ []) (no_session session, (no_token session, tt)) old budget refusal h
+  refuses_alike (requests.OnSession session of_session.Menu) refusal h = no_session session old budget refusal h
+  refuses_alike (requests.OnSession session of_session.Commit) refusal h =
+      first_blind ((λ s. NamesNoSession s session) ∷ (λ s. has_no_room s.stored) ∷ (λ s. is_at_last_revision s session) ∷ (λ s. is_stale s session)
+      ∷ (λ s. is_unfinished s session) ∷ [])
       (no_session session, (full_of_sentences, (last_change session, (stale session, (unfinished session, tt))))) old budget refusal h
-  refuses_alike (requests.Refresh session) refusal h = no_session session old budget refusal h
-  refuses_alike (requests.Drop session) refusal h = no_session session old budget refusal h
+  refuses_alike (requests.OnSession session of_session.Refresh) refusal h = no_session session old budget refusal h
+  refuses_alike (requests.OnSession session of_session.Drop) refusal h = no_session session old budget refusal h
   refuses_alike request refusal h = absurd h
 
 -- ---- requests on sessions
@@ -264,7 +272,7 @@ module _ (old : State) (budget : ℕ) (said its : Reply) (new its_new : State) w
   opens_alike : (form : List ℕ) → OpensSession old form said new → OpensSession (state_at old budget) form its its_new → its_new ≡ state_at new budget
   opens_alike form x y =
       let word : y.word ≡ x.word = same_Some y.word x.word (sym y.named ∙ x.named) in
-      let article : y.article ≡ x.article = same_Some y.article x.article (sym y.on ∙ ap (article_of old.pages.articles) word ∙ x.on) in
+      let article : y.article ≡ x.article = same_Some y.article x.article (sym y.on ∙ ap (article_of old.stored.articles) word ∙ x.on) in
       alike budget _ new its_new x.after
       (y.after
       ∙ ap (λ (w : WordId). state_at (record old {
@@ -281,11 +289,11 @@ module _ (old : State) (budget : ℕ) (said its : Reply) (new its_new : State) w
   commits_alike number x y kept also_kept =
       let session : y.session ≡ x.session = same_Some y.session x.session (sym y.named ∙ x.named) in
       let article : y.article ≡ x.article =
-      same_Some y.article x.article (sym y.on ∙ ap (λ (s : PlainSession). article_of old.pages.articles s.article) session ∙ x.on) in
-      let gets : GetStatus (at_budget (with_appended old.pages x.session.article x.session.tokens Asserted) budget) x.session.tokens y.status =
-      subst (λ (s : PlainSession). GetStatus (at_budget (with_appended old.pages s.article s.tokens Asserted) budget) s.tokens y.status) session y.gets in
+      same_Some y.article x.article (sym y.on ∙ ap (λ (s : PlainSession). article_of old.stored.articles s.article) session ∙ x.on) in
+      let gets : GetStatus (at_budget (with_appended old.stored x.session.article x.session.tokens Asserted) budget) x.session.tokens y.status =
+      subst (λ (s : PlainSession). GetStatus (at_budget (with_appended old.stored s.article s.tokens Asserted) budget) s.tokens y.status) session y.gets in
       let status : y.status ≡ x.status =
-      status_one (with_appended old.pages x.session.article x.session.tokens Asserted) budget x.session.tokens x.status y.status x.gets gets
+      status_one (with_appended old.stored x.session.article x.session.tokens Asserted) budget x.session.tokens x.status y.status x.gets gets
       (ap tells_spent (sym x.answer) ∙ kept) (ap tells_spent (sym y.answer) ∙ also_kept) in
       alike budget _ new its_new x.after
       (y.after ∙ ap (λ (s : PlainSession). came s y.status y.article) session ∙ ap (λ (s : Status). came x.session s y.article) status
@@ -293,7 +301,7 @@ module _ (old : State) (budget : ℕ) (said its : Reply) (new its_new : State) w
     where
       came : PlainSession → Status → Article → State
       came session status article = record {
-        pages = at_budget (with_appended old.pages session.article session.tokens status) budget;
+        stored = at_budget (with_appended old.stored session.article session.tokens status) budget;
         sessions = with_change old.sessions (numbered number) (begun_again article);
         last = old.last;
       }
@@ -303,20 +311,20 @@ module _ (old : State) (budget : ℕ) (said its : Reply) (new its_new : State) w
   refreshes_alike number x y =
       let session : y.session ≡ x.session = same_Some y.session x.session (sym y.named ∙ x.named) in
       let article : y.article ≡ x.article =
-      same_Some y.article x.article (sym y.on ∙ ap (λ (s : PlainSession). article_of old.pages.articles s.article) session ∙ x.on) in
+      same_Some y.article x.article (sym y.on ∙ ap (λ (s : PlainSession). article_of old.stored.articles s.article) session ∙ x.on) in
       alike budget _ new its_new x.after
       (y.after ∙ ap (λ (a : Article). state_at (record old { sessions = with_change old.sessions (numbered number) (with_revision a.revision) }) budget)
       article)
 
   does_alike : (request : Request) → Does old request said new → Does (state_at old budget) request its its_new → tells_spent said ≡ false
       → tells_spent its ≡ false → its_new ≡ state_at new budget
-  does_alike (requests.Begin article) x y kept also_kept = opens_alike article x y
-  does_alike (requests.Put session text) x y kept also_kept = alike budget _ new its_new x.after y.after
-  does_alike (requests.Back session) x y kept also_kept = alike budget _ new its_new x.after y.after
-  does_alike (requests.Menu session) x y kept also_kept = alike budget old new its_new x.after y.after
-  does_alike (requests.Commit session) x y kept also_kept = commits_alike session x y kept also_kept
-  does_alike (requests.Refresh session) x y kept also_kept = refreshes_alike session x y
-  does_alike (requests.Drop session) x y kept also_kept = alike budget _ new its_new x.after y.after
+  does_alike (requests.OnArticle article of_article.Open) x y kept also_kept = opens_alike article x y
+  does_alike (requests.OnSession session (of_session.Type text)) x y kept also_kept = alike budget _ new its_new x.after y.after
+  does_alike (requests.OnSession session of_session.Back) x y kept also_kept = alike budget _ new its_new x.after y.after
+  does_alike (requests.OnSession session of_session.Menu) x y kept also_kept = alike budget old new its_new x.after y.after
+  does_alike (requests.OnSession session of_session.Commit) x y kept also_kept = commits_alike session x y kept also_kept
+  does_alike (requests.OnSession session of_session.Refresh) x y kept also_kept = refreshes_alike session x y
+  does_alike (requests.OnSession session of_session.Drop) x y kept also_kept = alike budget _ new its_new x.after y.after
   does_alike request x y kept also_kept = absurd x
 
   session_alike : (request : Request) → StepsSession old request said new → StepsSession (state_at old budget) request its its_new → tells_spent said ≡ false
@@ -329,7 +337,7 @@ module _ (old : State) (budget : ℕ) (said its : Reply) (new its_new : State) w
       by (inl refused) (inl its_refused) = alike budget old new its_new refused.3 its_refused.3
       by (inl refused) (inr its_done) = absurd (its_done.0 refused.0 (refuses_alike old budget request refused.0 refused.2))
       by (inr done) (inl its_refused) =
-          absurd (done.0 its_refused.0 (refuses_alike (state_at old budget) old.pages.budget request its_refused.0 its_refused.2))
+          absurd (done.0 its_refused.0 (refuses_alike (state_at old budget) old.stored.budget request its_refused.0 its_refused.2))
       by (inr done) (inr its_done) = does_alike request done.1 its_done.1 kept also_kept
 
 -- ---- a whole step
@@ -337,11 +345,18 @@ module _ (old : State) (budget : ℕ) (said its : Reply) (new its_new : State) w
 -- The plain wiki is a function of what it is asked, whatever the budgets, where none is spent.
 pub step_one : (old : State) (budget : ℕ) (request : Request) (said its : Reply) (new its_new : State) → Step old request said new
     → Step (state_at old budget) request its its_new → tells_spent said ≡ false → tells_spent its ≡ false → its_new ≡ state_at new budget
-step_one old budget (requests.Begin article) said its new its_new = session_alike old budget said its new its_new (requests.Begin article)
-step_one old budget (requests.Put session text) said its new its_new = session_alike old budget said its new its_new (requests.Put session text)
-step_one old budget (requests.Back session) said its new its_new = session_alike old budget said its new its_new (requests.Back session)
-step_one old budget (requests.Menu session) said its new its_new = session_alike old budget said its new its_new (requests.Menu session)
-step_one old budget (requests.Commit session) said its new its_new = session_alike old budget said its new its_new (requests.Commit session)
-step_one old budget (requests.Refresh session) said its new its_new = session_alike old budget said its new its_new (requests.Refresh session)
-step_one old budget (requests.Drop session) said its new its_new = session_alike old budget said its new its_new (requests.Drop session)
+step_one old budget (requests.OnArticle article of_article.Open) said its new its_new =
+    session_alike old budget said its new its_new (requests.OnArticle article of_article.Open)
+step_one old budget (requests.OnSession session (of_session.Type text)) said its new its_new =
+    session_alike old budget said its new its_new (requests.OnSession session (of_session.Type text))
+step_one old budget (requests.OnSession session of_session.Back) said its new its_new =
+    session_alike old budget said its new its_new (requests.OnSession session of_session.Back)
+step_one old budget (requests.OnSession session of_session.Menu) said its new its_new =
+    session_alike old budget said its new its_new (requests.OnSession session of_session.Menu)
+step_one old budget (requests.OnSession session of_session.Commit) said its new its_new =
+    session_alike old budget said its new its_new (requests.OnSession session of_session.Commit)
+step_one old budget (requests.OnSession session of_session.Refresh) said its new its_new =
+    session_alike old budget said its new its_new (requests.OnSession session of_session.Refresh)
+step_one old budget (requests.OnSession session of_session.Drop) said its new its_new =
+    session_alike old budget said its new its_new (requests.OnSession session of_session.Drop)
 step_one old budget request said its new its_new = pages_alike old budget said its new its_new request

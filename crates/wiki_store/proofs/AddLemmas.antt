@@ -14,14 +14,16 @@ use Rattle.wiki_talk.specs.declared.refusals.Refusal.{Refusal}
 use Rattle.wiki_talk.specs.declared.replies.Reply.{Reply}
 use Rattle.wiki_talk.specs.declared.replies.Reply.TheVariants as replies
 use Rattle.wiki_talk.specs.declared.requests.Request.TheVariants as requests
+use Rattle.wiki_talk.specs.declared.requests.WikiRequest.TheVariants as of_wiki
 use Rattle.articles.specs.declared.article.Article.{Article}
 use Rattle.articles.specs.Articles.{is_of, new_article, without_article, IsEmptyArticle}
 use Rattle.wiki_parts.specs.declared.faults.Fault.{Fault}
 use Rattle.wiki_parts.specs.declared.faults.Fault.TheVariants.{Refused}
 use Rattle.wiki_parts.specs.Faults.{IsCause}
-use Rattle.wiki_parts.specs.State.{State, IsSound}
-use Rattle.wiki_store.specs.Step.{Step}
-use Rattle.wiki_parts.specs.Words.{word_refusal}
+use Rattle.plain_wiki.specs.State.{Stored}
+use Rattle.wiki_parts.specs.Sound.{IsSound}
+use Rattle.plain_wiki.specs.Step.{Step}
+use Rattle.plain_wiki.specs.Words.{word_refusal}
 
 -- the word under a number that is there
 record Under (o : Option Word) (id : WordId) : Type 0 where
@@ -34,7 +36,7 @@ some-under None id is = absurd (none-some id is)
 some-under (Some w) id is = record { word = w; is = refl; number = ap (λ (o : Option WordId). unwrap_or o id) is }
 
 -- the number after the last one given is above those of all articles
-pub articles-below : (state : State) → IsSound state → IsLexicon state.words → All (λ article. article.word.0 < state.words.last + 1) state.articles
+pub articles-below : (state : Stored) → IsSound state → IsLexicon state.words → All (λ article. article.word.0 < state.words.last + 1) state.articles
 articles-below state sound lexicon k d within =
     let here = slice_get-get_or state.articles k d within in
     let numbered = ap (λ (ids : List WordId). slice_get ids k) (sym sound.articles) ∙ slice_get-map (λ (a : Article). a.word) state.articles k
@@ -87,16 +89,17 @@ new-taken-out word (article ∷ articles) below =
     by_test false is rest = ap (λ (others : List Article). article ∷ others) rest
 
 -- a refused word is a step that changes nothing
-pub refused-step : {E : Type 0} (result : Result Reply E) (fault : Fault) (old new : State) (kind : Kind) (texts : List (List ℕ))
+pub refused-step : {E : Type 0} (result : Result Reply E) (fault : Fault) (old new : Stored) (kind : Kind) (texts : List (List ℕ))
     → IfOk result (λ reply. (refusal : Refusal) × (fault ≡ Refused refusal) × (reply ≡ replies.Refused refusal))
     → IsCause (word_refusal old.words kind texts) fault → new ≡ old
-    → IfOk result (λ reply. Step old (requests.Word kind texts) reply new)
+    → IfOk result (λ reply. Step old (requests.OnWiki (of_wiki.Word kind texts)) reply new)
 refused-step (Ok reply) fault old new kind texts told cause same =
-    subst (λ (r : Reply). Step old (requests.Word kind texts) r new) (sym told.2) (subst (IsCause (word_refusal old.words kind texts)) told.1 cause, same)
+    subst (λ (r : Reply). Step old (requests.OnWiki (of_wiki.Word kind texts)) r new) (sym told.2)
+    (subst (IsCause (word_refusal old.words kind texts)) told.1 cause, same)
 refused-step (Err fault) other old new kind texts told cause same = tt
 
 -- the number after the last one given, where there is one, is above those of all articles
-pub next-is : (state : State) → IsSound state → IsLexicon state.words → (last : ℕ) → last ≡ state.words.last → (o : Option ℕ)
+pub next-is : (state : Stored) → IsSound state → IsLexicon state.words → (last : ℕ) → last ≡ state.words.last → (o : Option ℕ)
     → SomeIff o (last + 1 < 4294967296) (last + 1)
     → IfSome o (λ next. (next ≡ state.words.last + 1) × All (λ article. article.word.0 < next) state.articles)
 next-is state sound lexicon last same None none = tt

@@ -24,15 +24,16 @@ use Rattle.articles.specs.Articles.{AreInOrder, HasPlace, HasSentence, sentence_
 use Rattle.articles.specs.Places.{IsPlaceOf}
 use Rattle.articles.proofs.PlaceLemmas.{article_at}
 use Rattle.wiki_parts.specs.declared.meanings.Sense.{Sense}
-use Rattle.wiki_parts.specs.State.{State}
-use Rattle.wiki_parts.specs.Meanings.{Meaning, Means}
-use Rattle.wiki_parts.specs.Knowledge.{is_asserted, sentences_in, Knows, live_names, IsStatusOf, GetStatus}
+use Rattle.plain_wiki.specs.State.{Stored}
+use Rattle.plain_wiki.specs.Meanings.{Meaning, Means}
+use Rattle.plain_wiki.specs.Knowledge.{is_asserted, sentences_in, Knows, live_names, IsStatusOf, GetStatus}
+use Rattle.wiki_parts.specs.Spending.{IsCutOff}
 use Rattle.wiki_parts.specs.Holding.{Holding}
 use Rattle.wiki_parts.specs.Found.{meaning_shown}
 use Rattle.wiki_parts.specs.Kept.{stated_by, known_around, IsAround, Stands, IsKeeping}
-use Rattle.wiki_parts.specs.Refusing.{may_reassert}
-use Rattle.wiki_store.specs.Step.{with_inserted}
-use Rattle.wiki_store.specs.Appending.{end_of, with_appended, SpendsAtEnd}
+use Rattle.plain_wiki.specs.Causes.{may_reassert}
+use Rattle.plain_wiki.specs.Doing.{with_inserted, end_of, with_appended}
+use Rattle.wiki_store.specs.Spending.{SpendsAtEnd}
 use Rattle.wiki_store.proofs.AroundLemmas.{around_there, mean_at}
 use Rattle.wiki_store.proofs.JudgeLemmas.{spliced, fits-standing, keeps-changed, judged_over, judged_plain, status_taken, spends_taken, all-in-at, known_in-gap, known_in-unasserted, unasserted, means-at, around_place}
 
@@ -84,16 +85,18 @@ each-ok (Err fault) P Q gives here = tt
 
 -- ---- at the end of an article
 
-pub appended-status : (old : State) (word : WordId) (at : ℕ) (given tokens : List (List ℕ)) (meaning : Meaning) (status : Status)
+pub appended-status : (budget : ℕ) (old : Stored) (word : WordId) (at : ℕ) (given tokens : List (List ℕ)) (meaning : Meaning) (status : Status)
     → at ≡ end_of old.articles word → given ≡ tokens
-    → Means old.grammar old.words tokens meaning → IsStatusOf (with_inserted old word at (record { tokens = given; status = Asserted })) meaning status
-    → GetStatus (with_appended old word tokens Asserted) tokens status
-appended-status old word at given tokens meaning status is same means fits = record {
+    → Means old.grammar old.words tokens meaning
+    → IsStatusOf (IsCutOff budget) (with_inserted old word at (record { tokens = given; status = Asserted })) meaning status
+    → GetStatus (IsCutOff budget) (with_appended old word tokens Asserted) tokens status
+appended-status budget old word at given tokens meaning status is same means fits = record {
   meaning = meaning;
   means = means;
   fits =
-      subst (λ (n : ℕ). IsStatusOf (with_inserted old word n (record { tokens = tokens; status = Asserted })) meaning status) is
-      (subst (λ (ts : List (List ℕ)). IsStatusOf (with_inserted old word at (record { tokens = ts; status = Asserted })) meaning status) same fits);
+      subst (λ (n : ℕ). IsStatusOf (IsCutOff budget) (with_inserted old word n (record { tokens = tokens; status = Asserted })) meaning status) is
+      (subst (λ (ts : List (List ℕ)). IsStatusOf (IsCutOff budget) (with_inserted old word at (record { tokens = ts; status = Asserted })) meaning status) same
+      fits);
 }
 
 pub appended-spent : (old : Holding) (word : WordId) (at : ℕ) (given tokens : List (List ℕ)) (status : Status) → at ≡ end_of old.state.articles word
@@ -109,8 +112,8 @@ appended-spent old word at given tokens status is same beyond red =
 
 -- ---- inside and outside
 
-module _ (inside : State) (senses : List (List Sense)) (model : CheckedModel) (now : Holding)
-    (view : record { state = inside; interpretation = kept_interp model } ≡ now)
+module _ (inside : Stored) (budget : ℕ) (senses : List (List Sense)) (model : CheckedModel) (now : Holding)
+    (view : record { state = inside; budget = budget; interpretation = kept_interp model } ≡ now)
     (keeping : IsKeeping inside senses model) (ordered : AreInOrder inside.articles) (word : WordId) (place : ℕ) (is : IsPlaceOf now.state.articles word place)
   where
     place_inside : IsPlaceOf inside.articles word place
@@ -195,11 +198,14 @@ module _ (inside : State) (senses : List (List Sense)) (model : CheckedModel) (n
           (puts : (status : Status) → put status around.article.sentences
           ≡ spliced around.article.sentences from to (record { tokens = tokens; status = status }))
           (status : Status) (stands : Stands (known_around inside.articles senses place from (stated_by (meaning_shown m)) to) (live_names inside.words)
-          inside.budget (meaning_shown m) status) where
-        pub status_outside : IsStatusOf (record now.state { articles = with_change now.state.articles word (put Asserted) }) (meaning_shown m) status
+          budget (meaning_shown m) status) where
+        pub status_outside : IsStatusOf (IsCutOff budget) (record now.state { articles = with_change now.state.articles word (put Asserted) }) (meaning_shown m)
+            status
         status_outside =
-            subst (λ (h : Holding). IsStatusOf (record h.state { articles = with_change h.state.articles word (put Asserted) }) (meaning_shown m) status) view
-            (status_taken inside senses place from to around tokens m keeping.mean means_inside word ordered place_inside (put Asserted) (puts Asserted) status
+            subst (λ (h : Holding). IsStatusOf (IsCutOff budget) (record h.state { articles = with_change h.state.articles word (put Asserted) })
+            (meaning_shown m) status) view
+            (status_taken inside senses place from to around tokens m keeping.mean means_inside word ordered place_inside (put Asserted) (puts Asserted) budget
+            status
             stands)
 
         pub spends_outside : status ≡ RedBudget
@@ -209,7 +215,7 @@ module _ (inside : State) (senses : List (List Sense)) (model : CheckedModel) (n
         spends_outside red beyond =
             subst (λ (h : Holding). (claims : List Claim) → Knows (record h.state { articles = with_change h.state.articles word (put Asserted) }) claims
             → ¬ IsModel h.interpretation claims) view
-            (spends_taken inside senses place from to around tokens m keeping.mean means_inside word ordered place_inside (put Asserted) (puts Asserted)
+            (spends_taken inside senses place from to around tokens m keeping.mean means_inside word ordered place_inside (put Asserted) (puts Asserted) budget
             (kept_interp model) status stands red beyond)
 
         pub keeps_inside : (articles : List Article) (own : List Sense) (after : CheckedModel) → articles ≡ with_change inside.articles word (put status)
@@ -223,5 +229,5 @@ module _ (inside : State) (senses : List (List Sense)) (model : CheckedModel) (n
             (sym own_is)
             (keeps-changed inside senses model word place from to ordered place_inside around (put status) (record { tokens = tokens; status = status }) m after
             keeping (puts status) means_inside
-            (fits-standing (known_around inside.articles senses place from (stated_by (meaning_shown m)) to) (live_names inside.words) inside.budget
+            (fits-standing (known_around inside.articles senses place from (stated_by (meaning_shown m)) to) (live_names inside.words) budget
             (meaning_shown m) status stands) short room claims))

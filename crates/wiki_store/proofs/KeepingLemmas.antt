@@ -17,10 +17,10 @@ use Rattle.articles.specs.declared.sentences.Sentence.{Sentence}
 use Rattle.articles.specs.declared.article.Article.{Article}
 use Rattle.articles.specs.Articles.{AreInOrder, is_of, article_of}
 use Rattle.wiki_parts.specs.declared.meanings.Sense.{Sense}
-use Rattle.wiki_parts.specs.State.{State}
-use Rattle.wiki_parts.specs.Meanings.{Meaning, MeansFaithfully}
-use Rattle.wiki_parts.specs.Places.{word_named, article_named}
-use Rattle.wiki_parts.specs.Knowledge.{sentences_in, Knows}
+use Rattle.plain_wiki.specs.State.{Stored}
+use Rattle.plain_wiki.specs.Meanings.{Meaning, MeansFaithfully}
+use Rattle.plain_wiki.specs.Places.{word_named, article_named}
+use Rattle.plain_wiki.specs.Knowledge.{sentences_in, Knows}
 use Rattle.wiki_parts.specs.Holding.{IsStored, IsKept}
 use Rattle.wiki_parts.specs.Kept.{meanings_in, MeanEach, MeanInEach, IsKeeping}
 use Rattle.wiki_parts.proofs.KnownLemmas.{knows_from_known}
@@ -46,7 +46,7 @@ all_parts P [] ys all = (All-nil P, all)
 all_parts P (x ∷ xs) ys all = let rest = all_parts P xs ys (All-tail P x (xs ++ ys) all) in (All-cons P x xs (All-head P x (xs ++ ys) all) rest.0, rest.1)
 
 -- sentences that have their meanings are stored rightly, where they are short and whatever is meant keeps its truth
-pub stored_each : (state : State) (sentences : List Sentence) (meanings : List Meaning)
+pub stored_each : (state : Stored) (sentences : List Sentence) (meanings : List Meaning)
     → ((tokens : List (List ℕ)) → MeansFaithfully state.grammar state.words tokens) → MeanEach state.grammar state.words sentences meanings
     → All (λ sentence. length sentence.tokens ≤ MOST_TOKENS) sentences → All (IsStored state) sentences
 stored_each state [] [] faithful mean short = All-nil (IsStored state)
@@ -63,7 +63,7 @@ stored_each state (s ∷ ss) (m ∷ ms) faithful mean short =
     })
     (stored_each state ss ms faithful mean.1 (All-tail (λ (t : Sentence). length t.tokens ≤ MOST_TOKENS) s ss short))
 
-pub stored_in : (state : State) (articles : List Article) (senses : List (List Sense))
+pub stored_in : (state : Stored) (articles : List Article) (senses : List (List Sense))
     → ((tokens : List (List ℕ)) → MeansFaithfully state.grammar state.words tokens) → MeanInEach state.grammar state.words articles senses
     → All (λ sentence. length sentence.tokens ≤ MOST_TOKENS) (sentences_in articles) → All (IsStored state) (sentences_in articles)
 stored_in state [] [] faithful mean short = All-nil (IsStored state)
@@ -76,11 +76,11 @@ stored_in state (a ∷ articles) (own ∷ senses) faithful mean short =
     (stored_in state articles senses faithful mean.1 (all_parts (λ (t : Sentence). length t.tokens ≤ MOST_TOKENS) a.sentences (sentences_in articles) short).1)
 
 -- a wiki with what is kept beside its state keeps what it should
-pub is_kept : (state : State) (senses : List (List Sense)) (model : CheckedModel)
+pub is_kept : (state : Stored) (budget : ℕ) (senses : List (List Sense)) (model : CheckedModel)
     → ((tokens : List (List ℕ)) → MeansFaithfully state.grammar state.words tokens) → IsKeeping state senses model → AreInOrder state.articles
     → IsFiniteModel (kept_interp model) (kept_claims model)
-    → IsKept (record { state = state; interpretation = kept_interp model })
-is_kept state senses model faithful keeping ordered finite = record {
+    → IsKept (record { state = state; budget = budget; interpretation = kept_interp model })
+is_kept state budget senses model faithful keeping ordered finite = record {
   sound = keeping.sound;
   in_order = ordered;
   stored = stored_in state state.articles senses faithful keeping.mean keeping.short;
@@ -118,7 +118,7 @@ each_there P (a ∷ articles) word article is all =
     by_test false behind there = behind there
 
 -- the sentence at a place of the article that a text names is stored rightly
-pub stored_there : (state : State) (senses : List (List Sense)) (model : CheckedModel)
+pub stored_there : (state : Stored) (senses : List (List Sense)) (model : CheckedModel)
     → ((tokens : List (List ℕ)) → MeansFaithfully state.grammar state.words tokens) → IsKeeping state senses model → (text : List ℕ) (article : Article)
     → article_named state text ≡ Some article → (at : ℕ) (sentence : Sentence) → slice_get article.sentences at ≡ Some sentence → IsStored state sentence
 stored_there state senses model faithful keeping text article named at sentence here =
@@ -132,5 +132,5 @@ stored_there state senses model faithful keeping text article named at sentence 
         (all at sentence (slice_get_within article.sentences at sentence here))
 
 -- a stored sentence has a derivation
-pub has_derivation : (state : State) (sentence : Sentence) → IsStored state sentence → IsSentence state.grammar state.words sentence.tokens
+pub has_derivation : (state : Stored) (sentence : Sentence) → IsStored state sentence → IsSentence state.grammar state.words sentence.tokens
 has_derivation state sentence stored = let least = stored.means.is_least in (least.tree, least.derives)

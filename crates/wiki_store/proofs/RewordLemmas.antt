@@ -21,12 +21,13 @@ use Rattle.articles.specs.Articles.{article_of, HasArticle}
 use Rattle.wiki_parts.specs.declared.faults.Fault.{Fault}
 use Rattle.wiki_parts.specs.declared.faults.Fault.TheVariants.{Refused, Memory}
 use Rattle.wiki_parts.specs.Faults.{IsAbsent, IsCause, IsFault}
-use Rattle.wiki_parts.specs.Knowledge.{sentences_in}
-use Rattle.wiki_parts.specs.Meanings.{Means}
-use Rattle.wiki_parts.specs.Places.{word_named, Placed, placed_from, placed_in, all_placed, IsFirstPlaced}
-use Rattle.wiki_parts.specs.Refusing.{FirstOf, NamesNoWord, IsBadReword, BreaksSentence, IsInUse, KeepsMeaning, IsBroken, reword_cause, uses_word}
-use Rattle.wiki_parts.specs.State.{State, IsSound}
-use Rattle.wiki_parts.specs.Words.{forms_given}
+use Rattle.plain_wiki.specs.Knowledge.{sentences_in}
+use Rattle.plain_wiki.specs.Meanings.{Means}
+use Rattle.plain_wiki.specs.Places.{word_named, Placed, placed_from, placed_in, all_placed, IsFirstPlaced}
+use Rattle.plain_wiki.specs.Causes.{FirstOf, NamesNoWord, is_bad_reword, breaks_by_forms, is_in_use, KeepsMeaning, IsBroken, reword_cause, uses_word}
+use Rattle.plain_wiki.specs.State.{Stored}
+use Rattle.wiki_parts.specs.Sound.{IsSound}
+use Rattle.plain_wiki.specs.Words.{forms_given}
 use Rattle.wiki_parts.proofs.FirstLemmas.{none_stands, nothing_stands}
 use Rattle.wiki_parts.proofs.UseLemmas.{lives-article}
 use Rattle.wiki_store.specs.Rewording.{KeepsSentences, KeepsOthers, TellsBroken}
@@ -147,7 +148,7 @@ each_sentence Q (a ∷ articles) all =
     All-append Q a.sentences (sentences_in articles) (placed_sentences Q a.word 0 a.sentences parts.0) (each_sentence Q articles parts.1)
 
 -- where each sentence keeps its meaning by a word's other forms, the words with them keep what the wiki has
-pub keeps_sentences : (state : State) → IsSound state → (word : WordId) (forms : Forms) (new : Listed) → new ≡ with_forms state.words word forms
+pub keeps_sentences : (state : Stored) → IsSound state → (word : WordId) (forms : Forms) (new : Listed) → new ≡ with_forms state.words word forms
     → All (λ placed. KeepsMeaning state.grammar state.words state.grammar new placed.sentence.tokens) (all_placed state.articles)
     → KeepsSentences state state.grammar new
 keeps_sentences state sound word forms new is all = record {
@@ -158,7 +159,7 @@ keeps_sentences state sound word forms new is all = record {
 }
 
 -- sentences without its old forms keep their meaning
-pub keeps_others : (state : State) → IsSound state → IsLexicon state.words → (word : WordId) (old forms : Forms) → forms_of state.words.live word ≡ Some old
+pub keeps_others : (state : Stored) → IsSound state → IsLexicon state.words → (word : WordId) (old forms : Forms) → forms_of state.words.live word ≡ Some old
     → forms_refusal (others state.words.live word) state.words.terminals forms ≡ None → (new : Listed) → new ≡ with_forms state.words word forms
     → KeepsOthers state.grammar state.words state.grammar new old.texts
 keeps_others state sound lexicon word old forms of_word free new is tokens meaning unused means =
@@ -179,10 +180,10 @@ same_forms : (live : List Word) (one other : WordId) (forms old : Forms) → one
     → forms ≡ old
 same_forms live one other forms old same a b = same_Some forms old (sym a ∙ ap (forms_of live) same ∙ b)
 
-module _ (state : State) (text : List ℕ) (texts : List (List ℕ)) (word : WordId) (old : Forms) (named : word_named state text ≡ Some word)
+module _ (state : Stored) (text : List ℕ) (texts : List (List ℕ)) (word : WordId) (old : Forms) (named : word_named state text ≡ Some word)
     (of_word : forms_of state.words.live word ≡ Some old) where
   -- texts against which nothing stands
-  pub no_bad_reword : reword_cause state.words word old.kind texts ≡ None → IsAbsent (IsBadReword state text texts)
+  pub no_bad_reword : reword_cause state.words word old.kind texts ≡ None → IsAbsent (is_bad_reword state text texts)
   no_bad_reword none refusal bad =
       let same : bad.word ≡ word = same_word (word_named state text) bad.word word bad.named named in
       let forms : bad.old ≡ old = same_forms state.words.live bad.word word bad.old old same bad.of_word of_word in
@@ -192,7 +193,7 @@ module _ (state : State) (text : List ℕ) (texts : List (List ℕ)) (word : Wor
   -- and by which no sentence breaks
   pub none_breaks : (new : Listed) → new ≡ with_forms state.words word (forms_given old.kind texts)
       → All (λ placed. KeepsMeaning state.grammar state.words state.grammar new placed.sentence.tokens) (all_placed state.articles)
-      → IsAbsent (BreaksSentence state text texts)
+      → IsAbsent (breaks_by_forms state text texts)
   none_breaks new is all refusal bad =
       let same : bad.word ≡ word = same_word (word_named state text) bad.word word bad.named named in
       let forms : bad.old ≡ old = same_forms state.words.live bad.word word bad.old old same bad.of_word of_word in
@@ -212,21 +213,21 @@ module _ (state : State) (text : List ℕ) (texts : List (List ℕ)) (word : Wor
   -- so nothing stands against the other forms
   pub reword_free : (new : Listed) → new ≡ with_forms state.words word (forms_given old.kind texts) → reword_cause state.words word old.kind texts ≡ None
       → All (λ placed. KeepsMeaning state.grammar state.words state.grammar new placed.sentence.tokens) (all_placed state.articles)
-      → IsAbsent (FirstOf (NamesNoWord state text ∷ IsBadReword state text texts ∷ BreaksSentence state text texts ∷ []))
+      → IsAbsent (FirstOf (NamesNoWord state text ∷ is_bad_reword state text texts ∷ breaks_by_forms state text texts ∷ []))
   reword_free new is none all =
-      none_stands (NamesNoWord state text) (IsBadReword state text texts ∷ BreaksSentence state text texts ∷ []) is_named
-      (none_stands (IsBadReword state text texts) (BreaksSentence state text texts ∷ []) (no_bad_reword none)
-      (none_stands (BreaksSentence state text texts) [] (none_breaks new is all) nothing_stands))
+      none_stands (NamesNoWord state text) (is_bad_reword state text texts ∷ breaks_by_forms state text texts ∷ []) is_named
+      (none_stands (is_bad_reword state text texts) (breaks_by_forms state text texts ∷ []) (no_bad_reword none)
+      (none_stands (breaks_by_forms state text texts) [] (none_breaks new is all) nothing_stands))
 
   -- a text that can't be a form is told
   pub bad_reword : (refusal : Refusal) → reword_cause state.words word old.kind texts ≡ Some refusal
-      → FirstOf (NamesNoWord state text ∷ IsBadReword state text texts ∷ BreaksSentence state text texts ∷ []) refusal
+      → FirstOf (NamesNoWord state text ∷ is_bad_reword state text texts ∷ breaks_by_forms state text texts ∷ []) refusal
   bad_reword refusal told = inr (is_named, inl (record { word = word; named = named; old = old; of_word = of_word; told = told }))
 
   -- a sentence that breaks is told
   pub broken_told : (new : Listed) → new ≡ with_forms state.words word (forms_given old.kind texts) → reword_cause state.words word old.kind texts ≡ None
       → (refusal : Refusal) → TellsBroken state state.grammar new refusal
-      → FirstOf (NamesNoWord state text ∷ IsBadReword state text texts ∷ BreaksSentence state text texts ∷ []) refusal
+      → FirstOf (NamesNoWord state text ∷ is_bad_reword state text texts ∷ breaks_by_forms state text texts ∷ []) refusal
   broken_told new is none refusal broken =
       inr (
         is_named,
@@ -247,7 +248,7 @@ module _ (state : State) (text : List ℕ) (texts : List (List ℕ)) (word : Wor
 
   -- ---- a word that goes
 
-  pub none_uses : find (uses_word word old) (all_placed state.articles) ≡ None → IsAbsent (IsInUse state text)
+  pub none_uses : find (uses_word word old) (all_placed state.articles) ≡ None → IsAbsent (is_in_use state text)
   none_uses none refusal bad =
       let same : bad.word ≡ word = same_word (word_named state text) bad.word word bad.named named in
       let forms : bad.forms ≡ old = same_forms state.words.live bad.word word bad.forms old same bad.of_word of_word in
@@ -255,9 +256,9 @@ module _ (state : State) (text : List ℕ) (texts : List (List ℕ)) (word : Wor
       (sym none ∙ sym (ap (λ (w : WordId). find (uses_word w bad.forms) (all_placed state.articles)) same
       ∙ ap (λ (f : Forms). find (uses_word word f) (all_placed state.articles)) forms) ∙ bad.uses)
 
-  pub unword_free : find (uses_word word old) (all_placed state.articles) ≡ None → IsAbsent (FirstOf (NamesNoWord state text ∷ IsInUse state text ∷ []))
+  pub unword_free : find (uses_word word old) (all_placed state.articles) ≡ None → IsAbsent (FirstOf (NamesNoWord state text ∷ is_in_use state text ∷ []))
   unword_free none =
-      none_stands (NamesNoWord state text) (IsInUse state text ∷ []) is_named (none_stands (IsInUse state text) [] (none_uses none) nothing_stands)
+      none_stands (NamesNoWord state text) (is_in_use state text ∷ []) is_named (none_stands (is_in_use state text) [] (none_uses none) nothing_stands)
 
 -- ---- faults
 
@@ -276,7 +277,7 @@ pub lives_by : (o : Option Forms) (forms : Forms) → o ≡ Some forms → IsSom
 lives_by o forms is = subst (λ (q : Option Forms). IsSome q) (sym is) refl
 
 -- a live word has an article
-pub has_article : (state : State) → IsSound state → (word : WordId) → IsSome (forms_of state.words.live word) → HasArticle state.articles word
+pub has_article : (state : Stored) → IsSound state → (word : WordId) → IsSome (forms_of state.words.live word) → HasArticle state.articles word
 has_article state sound word lives = by (article_of state.articles word) (lives-article state.articles state.words.live word sound.articles lives)
   where
     by : (o : Option Article) → IsSome o → IsSomeAnd o (λ _. Unit {0})

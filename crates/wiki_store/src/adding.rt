@@ -9,25 +9,28 @@ ghost use Rattle.logic_terms.specs.Reading.{IsModel};
 ghost use Rattle.wiki_talk.specs.declared.limits.TheConstants.{MOST_SENTENCES};
 ghost use Rattle.articles.specs.Articles.{CanChange, HasPlace, with_change};
 ghost use Rattle.wiki_parts.specs.declared.meanings.Sense.{Sense as TheSense};
-ghost use Rattle.wiki_parts.specs.Faults.{IsFault, IsAbsent};
+ghost use Rattle.wiki_parts.specs.Faults.{IsFault};
 ghost use Rattle.wiki_parts.specs.Found.{meaning_shown};
-ghost use Rattle.wiki_parts.specs.Knowledge.{IsStatusOf, Knows, sentences_in};
-ghost use Rattle.wiki_parts.specs.Meanings.{Means};
-ghost use Rattle.wiki_parts.specs.Parsing.{tokens_of};
-ghost use Rattle.wiki_parts.specs.Places.{word_named};
+ghost use Rattle.plain_wiki.specs.Knowledge.{IsStatusOf, Knows, sentences_in};
+ghost use Rattle.plain_wiki.specs.Meanings.{Means};
+ghost use Rattle.plain_wiki.specs.Parsing.{tokens_of};
+ghost use Rattle.plain_wiki.specs.Places.{article_named};
 ghost use Rattle.wiki_store.specs.Settled.{IsTrueIn};
-ghost use Rattle.wiki_store.specs.Spending.{SpendsBeyondKept};
-ghost use Rattle.wiki_store.specs.Step.{Step, Refuses, place_for, with_inserted};
-ghost use Rattle.wiki_store.specs.Unchanged.{KeepsInterpretation};
+ghost use Rattle.wiki_store.specs.Asking.{against, taken_by};
+ghost use Rattle.wiki_store.specs.Spending.{SpendsBeyond};
+ghost use Rattle.plain_wiki.specs.Causes.{FirstOf, NoneOf};
+ghost use Rattle.plain_wiki.specs.Doing.{AddsSentence, place_for, with_inserted};
+ghost use Rattle.wiki_parts.specs.Spending.{IsCutOff};
 
 use crate::base::Base;
+use crate::causes::{can_change, place_given};
 use crate::joining::{is_settled, join, stated, undo};
 use crate::standing::standing;
 use articles::{Articles, Sentence, Shared};
 use derivation_trees::show;
 use wiki_base::{Memory, Text8, Tokens, WordId};
 use wiki_parts::{Fault, Sense, Senses};
-use wiki_talk::{Reply, Request, Status};
+use wiki_talk::{ArticleRequest, Reply, Status};
 
 // A sentence that is to be stored: where, its tokens and what they mean.
 #[derive(Drop)]
@@ -46,10 +49,12 @@ impl Base {
         given: Option<u32>,
         text: &Text8,
     ) -> Result<Reply, Fault>
-        ensures step { IfOk result (λ reply. Step self.old.state (Request.Add form.now given text.now) reply self.new.state) }
-        ensures interpretation { IfOk result (λ reply. KeepsInterpretation self.old reply self.new) }
-        ensures spent { IfOk result (SpendsBeyondKept self.old (Request.Add form.now given text.now)) }
-        ensures refused { IfErr result (IsFault (Refuses self.old.state (Request.Add form.now given text.now))) }
+        ensures free { OnOk result (NoneOf (against self.old.state form.now (ArticleRequest.Add given text.now))) }
+        ensures does { IfOk result (λ reply. IsSomeAnd (article_named self.old.state form.now)
+            (λ article. AddsSentence (IsCutOff self.old.budget) given text.now article self.old.state reply self.new.state)) }
+        ensures budget { OnOk result (self.new.budget ≡ self.old.budget) }
+        ensures spent { IfOk result (SpendsBeyond self.old (taken_by self.old.state form.now (ArticleRequest.Add given text.now))) }
+        ensures refused { IfErr result (IsFault (FirstOf (against self.old.state form.now (ArticleRequest.Add given text.now)))) }
         ensures kept { OnErr result (self.new ≡ self.old) }
     {
         let fresh = self.fresh(form, given, text)?;
@@ -67,26 +72,25 @@ impl Base {
 
     // The new sentence, if nothing stands against it.
     fn fresh(&self, form: &Text8, given: Option<u32>, text: &Text8) -> Result<Fresh, Fault>
-        ensures named { IfOk result (λ fresh. word_named self.now.state form.now ≡ Some fresh.word) }
-        ensures at { IfOk result (λ fresh. place_for self.now.state form.now given ≡ Some fresh.at) }
+        ensures at { IfOk result (λ fresh. IsSomeAnd (article_named self.now.state form.now)
+            (λ article. (article.word ≡ fresh.word) × (place_for article given ≡ fresh.at))) }
         ensures open { IfOk result (λ fresh. CanChange self.now.state.articles fresh.word) }
         ensures place { IfOk result (λ fresh. HasPlace self.now.state.articles fresh.word fresh.at) }
         ensures room { OnOk result (length (sentences_in self.now.state.articles) < MOST_SENTENCES) }
         ensures tokens { IfOk result (λ fresh. fresh.tokens ≡ tokens_of self.now.state text.now) }
         ensures few { IfOk result (λ fresh. length fresh.tokens ≤ MOST_TOKENS) }
         ensures means { IfOk result (λ fresh. Means self.now.state.grammar self.now.state.words fresh.tokens (meaning_shown fresh.sense)) }
-        ensures free { OnOk result (IsAbsent (Refuses self.now.state (Request.Add form.now given text.now))) }
-        ensures refused { IfErr result (IsFault (Refuses self.now.state (Request.Add form.now given text.now))) }
+        ensures free { OnOk result (NoneOf (against self.now.state form.now (ArticleRequest.Add given text.now))) }
+        ensures refused { IfErr result (IsFault (FirstOf (against self.now.state form.now (ArticleRequest.Add given text.now)))) }
     {
-        let word = self.named(form)?;
-        let article = self.article(word);
-        let at = self.place_given(form, article, given)?;
+        let article = self.article_with(form)?;
+        let at = place_given(article, given)?;
         self.has_room()?;
         let tokens = self.tokens(text)?;
-        self.open(form, article)?;
+        can_change(article)?;
         let sense = self.sense(text, &tokens)?;
         Ok(Fresh {
-            word,
+            word: article.word,
             at,
             tokens: Shared::new(self.alloc, tokens)?,
             sense: Shared::new(self.alloc, sense)?,
@@ -100,11 +104,12 @@ impl Base {
         requires few { length fresh.tokens ≤ MOST_TOKENS }
         requires room { length (sentences_in self.old.state.articles) < MOST_SENTENCES }
         requires means { Means self.old.state.grammar self.old.state.words fresh.tokens (meaning_shown fresh.sense) }
-        ensures status { IfOk result (λ status. IsStatusOf
+        ensures status { IfOk result (λ status. IsStatusOf (IsCutOff self.old.budget)
             (with_inserted self.old.state fresh.word fresh.at (record { tokens = fresh.tokens; status = Status.Asserted })) (meaning_shown fresh.sense)
             status) }
         ensures after { IfOk result (λ status. self.new.state
             ≡ with_inserted self.old.state fresh.word fresh.at (record { tokens = fresh.tokens; status = status })) }
+        ensures budget { OnOk result (self.new.budget ≡ self.old.budget) }
         ensures spent { IfOk result (λ status. status ≡ Status.RedBudget → (claims : List Claim)
             → Knows (with_inserted self.old.state fresh.word fresh.at (record { tokens = fresh.tokens; status = Status.Asserted })) claims
             → ¬ IsModel self.old.interpretation claims) }
@@ -125,11 +130,12 @@ impl Base {
         requires room { length (sentences_in self.old.state.articles) < MOST_SENTENCES }
         requires means { Means self.old.state.grammar self.old.state.words fresh.tokens (meaning_shown fresh.sense) }
         requires settled { IsTrueIn self.old.interpretation (meaning_shown fresh.sense) }
-        ensures status { IfOk result (λ status. IsStatusOf
+        ensures status { IfOk result (λ status. IsStatusOf (IsCutOff self.old.budget)
             (with_inserted self.old.state fresh.word fresh.at (record { tokens = fresh.tokens; status = Status.Asserted })) (meaning_shown fresh.sense)
             status) }
         ensures after { IfOk result (λ status. self.new.state
             ≡ with_inserted self.old.state fresh.word fresh.at (record { tokens = fresh.tokens; status = status })) }
+        ensures budget { OnOk result (self.new.budget ≡ self.old.budget) }
         ensures spent { IfOk result (λ status. status ≡ Status.RedBudget → (claims : List Claim)
             → Knows (with_inserted self.old.state fresh.word fresh.at (record { tokens = fresh.tokens; status = Status.Asserted })) claims
             → ¬ IsModel self.old.interpretation claims) }
@@ -166,11 +172,12 @@ impl Base {
         requires few { length fresh.tokens ≤ MOST_TOKENS }
         requires room { length (sentences_in self.old.state.articles) < MOST_SENTENCES }
         requires means { Means self.old.state.grammar self.old.state.words fresh.tokens (meaning_shown fresh.sense) }
-        ensures status { IfOk result (λ status. IsStatusOf
+        ensures status { IfOk result (λ status. IsStatusOf (IsCutOff self.old.budget)
             (with_inserted self.old.state fresh.word fresh.at (record { tokens = fresh.tokens; status = Status.Asserted })) (meaning_shown fresh.sense)
             status) }
         ensures after { IfOk result (λ status. self.new.state
             ≡ with_inserted self.old.state fresh.word fresh.at (record { tokens = fresh.tokens; status = status })) }
+        ensures budget { OnOk result (self.new.budget ≡ self.old.budget) }
         ensures spent { IfOk result (λ status. status ≡ Status.RedBudget → (claims : List Claim)
             → Knows (with_inserted self.old.state fresh.word fresh.at (record { tokens = fresh.tokens; status = Status.Asserted })) claims
             → ¬ IsModel self.old.interpretation claims) }

@@ -1,39 +1,43 @@
 // Sentences that change in their places.
-ghost use Rattle.std.specs.Prelude.{◌≡◌, ◌≤◌, List, length, Some, true, IfOk, IfErr, OnOk, OnErr};
+ghost use Rattle.std.specs.Prelude.{◌≡◌, ◌≤◌, List, length, slice_get, Some, true, IsSomeAnd, IfOk, IfErr, OnOk, OnErr};
 ghost use Rattle.wiki_base.specs.declared.tokens.TheConstants.{MOST_TOKENS};
 ghost use Rattle.logic_terms.specs.Concept.{Claim};
 ghost use Rattle.logic_terms.specs.Reading.{IsModel};
-ghost use Rattle.articles.specs.Articles.{CanChange, HasSentence, sentence_at};
+ghost use Rattle.articles.specs.Articles.{article_of, CanChange, HasSentence, sentence_at};
 ghost use Rattle.articles.specs.declared.sentences.Sentence.{Sentence as TheSentence};
 ghost use Rattle.wiki_parts.specs.Faults.{IsFault, IsAbsent};
 ghost use Rattle.wiki_parts.specs.Found.{meaning_shown};
-ghost use Rattle.wiki_parts.specs.Knowledge.{IsStatusOf, GetStatus, Knows};
-ghost use Rattle.wiki_parts.specs.Meanings.{Means};
-ghost use Rattle.wiki_parts.specs.Parsing.{tokens_of};
-ghost use Rattle.wiki_parts.specs.Places.{word_named, sentence_named};
-ghost use Rattle.wiki_parts.specs.Refusing.{HasBadStatus, may_reassert};
+ghost use Rattle.plain_wiki.specs.Knowledge.{IsStatusOf, GetStatus, Knows};
+ghost use Rattle.plain_wiki.specs.Meanings.{Means};
+ghost use Rattle.plain_wiki.specs.Parsing.{tokens_of};
+ghost use Rattle.plain_wiki.specs.Places.{article_named};
+ghost use Rattle.plain_wiki.specs.Causes.{FirstOf, NoneOf, may_reassert, has_bad_status};
 ghost use Rattle.wiki_store.specs.Settled.{IsTrueIn};
-ghost use Rattle.wiki_store.specs.Spending.{SpendsBeyondKept};
-ghost use Rattle.wiki_store.specs.Step.{Step, Refuses, with_replaced, with_marked};
-ghost use Rattle.wiki_store.specs.Unchanged.{KeepsInterpretation};
+ghost use Rattle.wiki_store.specs.Asking.{against, taken_by};
+ghost use Rattle.wiki_store.specs.Spending.{SpendsBeyond};
+ghost use Rattle.plain_wiki.specs.Doing.{EditsSentence, ReassertsSentence, with_replaced, with_marked};
+ghost use Rattle.wiki_parts.specs.Spending.{IsCutOff};
 
 use crate::adding::Fresh;
 use crate::base::Base;
+use crate::causes::can_change;
 use crate::joining::{is_settled, join, stated};
 use crate::removing::model_without;
 use crate::standing::standing;
-use articles::{Sentence, Shared};
+use articles::{Article, Sentence, Shared};
 use wiki_base::{Memory, Text8, WordId};
 use wiki_parts::Fault;
-use wiki_talk::{Refusal, Reply, Request, Status};
+use wiki_talk::{ArticleRequest, Refusal, Reply, Status};
 
 impl Base {
     // Puts the sentence of a text in place of the one at a place of an article.
     pub(crate) fn edit(&mut self, form: &Text8, at: u32, text: &Text8) -> Result<Reply, Fault>
-        ensures step { IfOk result (λ reply. Step self.old.state (Request.Edit form.now at text.now) reply self.new.state) }
-        ensures interpretation { IfOk result (λ reply. KeepsInterpretation self.old reply self.new) }
-        ensures spent { IfOk result (SpendsBeyondKept self.old (Request.Edit form.now at text.now)) }
-        ensures refused { IfErr result (IsFault (Refuses self.old.state (Request.Edit form.now at text.now))) }
+        ensures free { OnOk result (NoneOf (against self.old.state form.now (ArticleRequest.Edit at text.now))) }
+        ensures does { IfOk result (λ reply. IsSomeAnd (article_named self.old.state form.now)
+            (λ article. EditsSentence (IsCutOff self.old.budget) at text.now article self.old.state reply self.new.state)) }
+        ensures budget { OnOk result (self.new.budget ≡ self.old.budget) }
+        ensures spent { IfOk result (SpendsBeyond self.old (taken_by self.old.state form.now (ArticleRequest.Edit at text.now))) }
+        ensures refused { IfErr result (IsFault (FirstOf (against self.old.state form.now (ArticleRequest.Edit at text.now)))) }
         ensures kept { OnErr result (self.new ≡ self.old) }
     {
         let fresh = self.edited(form, at, text)?;
@@ -44,24 +48,23 @@ impl Base {
 
     // The sentence in place of another, if nothing stands against it.
     fn edited(&self, form: &Text8, at: u32, text: &Text8) -> Result<Fresh, Fault>
-        ensures named { IfOk result (λ fresh. word_named self.now.state form.now ≡ Some fresh.word) }
+        ensures named { IfOk result (λ fresh. IsSomeAnd (article_named self.now.state form.now) (λ article. article.word ≡ fresh.word)) }
         ensures at { IfOk result (λ fresh. fresh.at ≡ at) }
         ensures open { IfOk result (λ fresh. CanChange self.now.state.articles fresh.word) }
         ensures place { IfOk result (λ fresh. HasSentence self.now.state.articles fresh.word fresh.at) }
         ensures tokens { IfOk result (λ fresh. fresh.tokens ≡ tokens_of self.now.state text.now) }
         ensures few { IfOk result (λ fresh. length fresh.tokens ≤ MOST_TOKENS) }
         ensures means { IfOk result (λ fresh. Means self.now.state.grammar self.now.state.words fresh.tokens (meaning_shown fresh.sense)) }
-        ensures free { OnOk result (IsAbsent (Refuses self.now.state (Request.Edit form.now at text.now))) }
-        ensures refused { IfErr result (IsFault (Refuses self.now.state (Request.Edit form.now at text.now))) }
+        ensures free { OnOk result (NoneOf (against self.now.state form.now (ArticleRequest.Edit at text.now))) }
+        ensures refused { IfErr result (IsFault (FirstOf (against self.now.state form.now (ArticleRequest.Edit at text.now)))) }
     {
-        let word = self.named(form)?;
-        let article = self.article(word);
-        let _ = self.sentence(form, article, at)?;
+        let article = self.article_with(form)?;
+        let _ = self.sentence(article, at)?;
         let tokens = self.tokens(text)?;
-        self.open(form, article)?;
+        can_change(article)?;
         let sense = self.sense(text, &tokens)?;
         Ok(Fresh {
-            word,
+            word: article.word,
             at,
             tokens: Shared::new(self.alloc, tokens)?,
             sense: Shared::new(self.alloc, sense)?,
@@ -74,11 +77,12 @@ impl Base {
         requires place { HasSentence self.old.state.articles fresh.word fresh.at }
         requires few { length fresh.tokens ≤ MOST_TOKENS }
         requires means { Means self.old.state.grammar self.old.state.words fresh.tokens (meaning_shown fresh.sense) }
-        ensures status { IfOk result (λ status. IsStatusOf
+        ensures status { IfOk result (λ status. IsStatusOf (IsCutOff self.old.budget)
             (with_replaced self.old.state fresh.word fresh.at (record { tokens = fresh.tokens; status = Status.Asserted })) (meaning_shown fresh.sense)
             status) }
         ensures after { IfOk result (λ status. self.new.state
             ≡ with_replaced self.old.state fresh.word fresh.at (record { tokens = fresh.tokens; status = status })) }
+        ensures budget { OnOk result (self.new.budget ≡ self.old.budget) }
         ensures spent { IfOk result (λ status. status ≡ Status.RedBudget → (claims : List Claim)
             → Knows (with_replaced self.old.state fresh.word fresh.at (record { tokens = fresh.tokens; status = Status.Asserted })) claims
             → ¬ IsModel self.old.interpretation claims) }
@@ -98,11 +102,12 @@ impl Base {
         requires few { length fresh.tokens ≤ MOST_TOKENS }
         requires means { Means self.old.state.grammar self.old.state.words fresh.tokens (meaning_shown fresh.sense) }
         requires settled { IsTrueIn self.old.interpretation (meaning_shown fresh.sense) }
-        ensures status { IfOk result (λ status. IsStatusOf
+        ensures status { IfOk result (λ status. IsStatusOf (IsCutOff self.old.budget)
             (with_replaced self.old.state fresh.word fresh.at (record { tokens = fresh.tokens; status = Status.Asserted })) (meaning_shown fresh.sense)
             status) }
         ensures after { IfOk result (λ status. self.new.state
             ≡ with_replaced self.old.state fresh.word fresh.at (record { tokens = fresh.tokens; status = status })) }
+        ensures budget { OnOk result (self.new.budget ≡ self.old.budget) }
         ensures spent { IfOk result (λ status. status ≡ Status.RedBudget → (claims : List Claim)
             → Knows (with_replaced self.old.state fresh.word fresh.at (record { tokens = fresh.tokens; status = Status.Asserted })) claims
             → ¬ IsModel self.old.interpretation claims) }
@@ -134,11 +139,12 @@ impl Base {
         requires place { HasSentence self.old.state.articles fresh.word fresh.at }
         requires few { length fresh.tokens ≤ MOST_TOKENS }
         requires means { Means self.old.state.grammar self.old.state.words fresh.tokens (meaning_shown fresh.sense) }
-        ensures status { IfOk result (λ status. IsStatusOf
+        ensures status { IfOk result (λ status. IsStatusOf (IsCutOff self.old.budget)
             (with_replaced self.old.state fresh.word fresh.at (record { tokens = fresh.tokens; status = Status.Asserted })) (meaning_shown fresh.sense)
             status) }
         ensures after { IfOk result (λ status. self.new.state
             ≡ with_replaced self.old.state fresh.word fresh.at (record { tokens = fresh.tokens; status = status })) }
+        ensures budget { OnOk result (self.new.budget ≡ self.old.budget) }
         ensures spent { IfOk result (λ status. status ≡ Status.RedBudget → (claims : List Claim)
             → Knows (with_replaced self.old.state fresh.word fresh.at (record { tokens = fresh.tokens; status = Status.Asserted })) claims
             → ¬ IsModel self.old.interpretation claims) }
@@ -178,10 +184,12 @@ impl Base {
 
     // Gives a retracted or red sentence the status that it gets as a new one.
     pub(crate) fn reassert(&mut self, form: &Text8, at: u32) -> Result<Reply, Fault>
-        ensures step { IfOk result (λ reply. Step self.old.state (Request.Reassert form.now at) reply self.new.state) }
-        ensures interpretation { IfOk result (λ reply. KeepsInterpretation self.old reply self.new) }
-        ensures spent { IfOk result (SpendsBeyondKept self.old (Request.Reassert form.now at)) }
-        ensures refused { IfErr result (IsFault (Refuses self.old.state (Request.Reassert form.now at))) }
+        ensures free { OnOk result (NoneOf (against self.old.state form.now (ArticleRequest.Reassert at))) }
+        ensures does { IfOk result (λ reply. IsSomeAnd (article_named self.old.state form.now)
+            (λ article. ReassertsSentence (IsCutOff self.old.budget) at article self.old.state reply self.new.state)) }
+        ensures budget { OnOk result (self.new.budget ≡ self.old.budget) }
+        ensures spent { IfOk result (SpendsBeyond self.old (taken_by self.old.state form.now (ArticleRequest.Reassert at))) }
+        ensures refused { IfErr result (IsFault (FirstOf (against self.old.state form.now (ArticleRequest.Reassert at)))) }
         ensures kept { OnErr result (self.new ≡ self.old) }
     {
         let word = self.reassertable(form, at)?;
@@ -191,36 +199,20 @@ impl Base {
 
     // The word of the article, if nothing stands against taking the sentence up again.
     fn reassertable(&self, form: &Text8, at: u32) -> Result<WordId, Fault>
-        ensures named { IfOk result (λ word. word_named self.now.state form.now ≡ Some word) }
+        ensures named { IfOk result (λ word. IsSomeAnd (article_named self.now.state form.now)
+            (λ article. (article.word ≡ word) × (article_of self.now.state.articles word ≡ Some article))) }
         ensures open { IfOk result (CanChange self.now.state.articles) }
         ensures place { IfOk result (λ word. HasSentence self.now.state.articles word at) }
         ensures may { IfOk result (λ word. (sentence : TheSentence) → sentence_at self.now.state.articles word at ≡ Some sentence
             → may_reassert sentence.status ≡ true) }
-        ensures free { OnOk result (IsAbsent (Refuses self.now.state (Request.Reassert form.now at))) }
-        ensures refused { IfErr result (IsFault (Refuses self.now.state (Request.Reassert form.now at))) }
+        ensures free { OnOk result (NoneOf (against self.now.state form.now (ArticleRequest.Reassert at))) }
+        ensures refused { IfErr result (IsFault (FirstOf (against self.now.state form.now (ArticleRequest.Reassert at)))) }
     {
-        let word = self.named(form)?;
-        let article = self.article(word);
-        let sentence = self.sentence(form, article, at)?;
-        self.open(form, article)?;
-        self.may_return(form, at, sentence)?;
-        Ok(word)
-    }
-
-    // Whether the sentence may be taken up again.
-    fn may_return(&self, form: &Text8, at: u32, sentence: &Sentence) -> Result<(), Fault>
-        requires { sentence_named self.now.state form.now at ≡ Some sentence.now }
-        ensures may { OnOk result (may_reassert sentence.now.status ≡ true) }
-        ensures absent { OnOk result (IsAbsent (HasBadStatus self.now.state may_reassert form.now at)) }
-        ensures refused { IfErr result (IsFault (HasBadStatus self.now.state may_reassert form.now at)) }
-    {
-        if may_reassert(sentence.status) {
-            Ok(())
-        } else {
-            Err(Fault::Refused(Refusal::BadStatus {
-                status: sentence.status,
-            }))
-        }
+        let article = self.article_with(form)?;
+        let sentence = self.sentence(article, at)?;
+        can_change(article)?;
+        may_return(article, at, sentence)?;
+        Ok(article.word)
     }
 
     // Stores the status that a sentence gets which isn't asserted.
@@ -229,8 +221,9 @@ impl Base {
         requires place { HasSentence self.old.state.articles word at }
         requires may { (sentence : TheSentence) → sentence_at self.old.state.articles word at ≡ Some sentence → may_reassert sentence.status ≡ true }
         ensures status { IfOk result (λ status. (sentence : TheSentence) → sentence_at self.old.state.articles word at ≡ Some sentence
-            → GetStatus (with_marked self.old.state word at Status.Asserted) sentence.tokens status) }
+            → GetStatus (IsCutOff self.old.budget) (with_marked self.old.state word at Status.Asserted) sentence.tokens status) }
         ensures after { IfOk result (λ status. self.new.state ≡ with_marked self.old.state word at status) }
+        ensures budget { OnOk result (self.new.budget ≡ self.old.budget) }
         ensures spent { IfOk result (λ status. status ≡ Status.RedBudget → (claims : List Claim)
             → Knows (with_marked self.old.state word at Status.Asserted) claims → ¬ IsModel self.old.interpretation claims) }
         ensures memory { OnErr result (self.new ≡ self.old) }
@@ -262,8 +255,9 @@ impl Base {
         requires place { HasSentence self.old.state.articles word at }
         requires may { (sentence : TheSentence) → sentence_at self.old.state.articles word at ≡ Some sentence → may_reassert sentence.status ≡ true }
         ensures status { IfOk result (λ status. (sentence : TheSentence) → sentence_at self.old.state.articles word at ≡ Some sentence
-            → GetStatus (with_marked self.old.state word at Status.Asserted) sentence.tokens status) }
+            → GetStatus (IsCutOff self.old.budget) (with_marked self.old.state word at Status.Asserted) sentence.tokens status) }
         ensures after { IfOk result (λ status. self.new.state ≡ with_marked self.old.state word at status) }
+        ensures budget { OnOk result (self.new.budget ≡ self.old.budget) }
         ensures spent { IfOk result (λ status. status ≡ Status.RedBudget → (claims : List Claim)
             → Knows (with_marked self.old.state word at Status.Asserted) claims → ¬ IsModel self.old.interpretation claims) }
         ensures memory { OnErr result (self.new ≡ self.old) }
@@ -288,6 +282,22 @@ impl Base {
             self.kept = model;
         }
         Ok(status)
+    }
+}
+
+// Whether the sentence may be taken up again.
+fn may_return(article: &Article, at: u32, sentence: &Sentence) -> Result<(), Fault>
+    requires { slice_get article.now.sentences at ≡ Some sentence.now }
+    ensures may { OnOk result (may_reassert sentence.now.status ≡ true) }
+    ensures absent { OnOk result (IsAbsent (has_bad_status may_reassert article.now at)) }
+    ensures refused { IfErr result (IsFault (has_bad_status may_reassert article.now at)) }
+{
+    if may_reassert(sentence.status) {
+        Ok(())
+    } else {
+        Err(Fault::Refused(Refusal::BadStatus {
+            status: sentence.status,
+        }))
     }
 }
 

@@ -7,7 +7,7 @@ ghost use Rattle.owl_eval.specs.Checked.{kept_interp, kept_claims};
 ghost use Rattle.reasoner.specs.Verdicts.{IsFiniteModel};
 ghost use Rattle.wiki_parts.specs.Found.{meaning_shown};
 ghost use Rattle.wiki_parts.specs.Kept.{stated_by, meanings_in, known_of, known_in, known_around, IsAround};
-ghost use Rattle.wiki_parts.specs.Knowledge.{is_asserted};
+ghost use Rattle.plain_wiki.specs.Knowledge.{is_asserted};
 ghost use Rattle.wiki_store.specs.Settled.{IsTrueIn};
 
 use crate::keeping::Keeping;

@@ -7,7 +7,7 @@ ghost use Rattle.owl_eval.specs.Checked.{kept_interp, kept_claims};
 ghost use Rattle.wiki_parts.specs.Found.{meaning_shown};
 ghost use Rattle.wiki_parts.specs.Judgements.{status_in, model_in};
 ghost use Rattle.wiki_parts.specs.Kept.{stated_by, known_around, IsAround, Stands};
-ghost use Rattle.wiki_parts.specs.Knowledge.{is_asserted, live_names};
+ghost use Rattle.plain_wiki.specs.Knowledge.{is_asserted, live_names};
 
 use crate::keeping::Keeping;
 use articles::{Article, Shared};

@@ -8,7 +8,7 @@ use Rattle.wiki_core.proofs.wiki.Wiki.put.Goals as goal
 
 pub invariant_of-self : goal.invariant_of-self
 invariant_of-self c =
-    let pages = c.self.inside.store.state in
+    let stored = c.self.inside.store.state in
     let new = c.type_token-typed.new.self in
     held_typed pages c.self.inside.sessions new c.self.inside.last (record { 0 = c.args.number })
     (λ tokens. tokens ++ typed c.grammar.result.now.terminals tokens c.as_str.result.now ∷ []) c.type_token-typed.result c.self.invariant
@@ -18,7 +18,7 @@ invariant_of-self c =
 
 pub invariant_of-self-2 : goal.invariant_of-self-2
 invariant_of-self-2 c =
-    let pages = c.self.inside.store.state in
+    let stored = c.self.inside.store.state in
     let new = c.type_token-typed.new.self in
     held_typed pages c.self.inside.sessions new c.self.inside.last (record { 0 = c.args.number })
     (λ tokens. tokens ++ typed c.grammar.result.now.terminals tokens c.as_str.result.now ∷ []) c.type_token-typed.result c.self.invariant

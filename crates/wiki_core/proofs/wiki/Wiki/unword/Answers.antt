@@ -1,6 +1,7 @@
 use Rattle.std.proofs.Common.{◌≡◌, sym, subst}
 use Rattle.codeco_terms.specs.GrammarParts.{GrammarParts}
-use Rattle.sessions.specs.Sessions.{all_plain, AreKept, AreRebased, AreOfGrammar}
+use Rattle.plain_wiki.specs.Sessions.{AreRebased}
+use Rattle.sessions.specs.Sessions.{all_plain, AreKept, AreOfGrammar}
 use Rattle.wiki_parts.specs.Holding as holding
 use Rattle.wiki_core.specs.Keeping.{AreHeld}
 use Rattle.sessions.proofs.KeepingLaws.{kept_grammar}
@@ -9,7 +10,7 @@ use Rattle.wiki_core.proofs.wiki.Wiki.unword.Goals as goal
 
 pub invariant_of-self : goal.invariant_of-self
 invariant_of-self c =
-    let pages = c.self.inside.store.state in
+    let stored = c.self.inside.store.state in
     let word = c.in_ok-gone.gone.0 in
     let lexicon = c.in_ok-gone.gone.1 in
     let sessions = c.in_ok-sessions.sessions in
@@ -22,6 +23,6 @@ invariant_of-self c =
 
 pub rebased-requires : goal.rebased-requires
 rebased-requires c =
-    let pages = c.self.inside.store.state in
+    let stored = c.self.inside.store.state in
     subst (λ (g : GrammarParts). AreOfGrammar g c.self.inside.sessions) (sym c.grammar.ensures)
     (kept_grammar pages.grammar pages.words c.self.inside.sessions c.self.invariant.kept)

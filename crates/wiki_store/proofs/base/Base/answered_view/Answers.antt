@@ -3,14 +3,14 @@ use Rattle.codeco_terms.specs.GrammarParts.{GrammarParts}
 use Rattle.derivation_trees.specs.Cutting.{shown}
 use Rattle.logic_terms.specs.Shown.{concept_of}
 use Rattle.wiki_parts.specs.Holding.{Holding}
-use Rattle.wiki_parts.specs.State.{State}
-use Rattle.wiki_parts.specs.Telling.{AreAnswersTo, TellsNoName, spelled}
+use Rattle.plain_wiki.specs.State.{Stored}
+use Rattle.plain_wiki.specs.Telling.{AreAnswersTo, TellsNoName, spelled}
 use Rattle.wiki_store.specs.Spending.{KeptHasDoubts}
 use Rattle.wiki_store.proofs.base.Base.answered_view.Goals as goal
 
 pub returns-clause-tells : goal.returns-clause-tells
 returns-clause-tells c =
-    let state : State = c.args.self.now.state in
+    let state : Stored = c.args.self.now.state in
     let tokens = c.args.sentence.now.tokens in
     let answers = c.args.answers.now in
     let told : AreAnswersTo state tokens c.in_ok-spelled.field-0 c.in_ok-spelled-2.field-0 =

@@ -11,85 +11,88 @@ use Rattle.articles.specs.declared.sentences.Sentence.{Sentence}
 use Rattle.articles.specs.declared.article.Article.{Article}
 use Rattle.articles.specs.Articles.{AreInOrder}
 use Rattle.wiki_parts.specs.declared.meanings.Sense.{Sense}
-use Rattle.wiki_parts.specs.State.{State}
+use Rattle.plain_wiki.specs.State.{Stored}
 use Rattle.wiki_parts.specs.Holding.{Holding}
 use Rattle.wiki_parts.specs.Found.{meaning_shown}
-use Rattle.wiki_parts.specs.Knowledge.{is_asserted, live_names, sentences_in}
+use Rattle.plain_wiki.specs.Knowledge.{is_asserted, live_names, sentences_in}
 use Rattle.wiki_parts.specs.Kept.{stated_by, known_around, Stands, IsKeeping}
-use Rattle.wiki_store.specs.Step.{with_inserted}
+use Rattle.plain_wiki.specs.Doing.{with_inserted}
 use Rattle.wiki_store.proofs.InsideLemmas.{item-is, set-there, undone, moved, gap, gap_known, over_inside, plain_inside, status_outside, spends_outside, keeps_inside}
 use Rattle.wiki_store.proofs.base.Base.insert_judged.Goals as goal
 
 pub standing-requires-clause-around : goal.standing-requires-clause-around
 standing-requires-clause-around c =
-    let inside : State = record {
+    let inside : Stored = record {
       grammar = c.self.inside.grammar;
-      budget = c.self.inside.budget;
       words = c.self.inside.lexicon;
       articles = c.self.inside.articles;
     } in
     let ordered : AreInOrder c.self.inside.articles = c.as_slice.ensures.in_order in
-    let around = gap inside c.self.inside.senses.items c.self.inside.kept c.args.self.now c.self.view_is c.self.invariant.0 ordered c.args.fresh.word
+    let around = gap inside c.self.inside.budget c.self.inside.senses.items c.self.inside.kept c.args.self.now c.self.view_is c.self.invariant.0 ordered
+    c.args.fresh.word
     c.place-place.result c.place-place.ensures c.args.fresh.at c.requires.place in
     rw (c.as_slice.ensures.articles, c.deref.ensures.value) around
 
 pub standing-requires-clause-known : goal.standing-requires-clause-known
 standing-requires-clause-known c =
-    let inside : State = record {
+    let inside : Stored = record {
       grammar = c.self.inside.grammar;
-      budget = c.self.inside.budget;
       words = c.self.inside.lexicon;
       articles = c.self.inside.articles;
     } in
     let ordered : AreInOrder c.self.inside.articles = c.as_slice.ensures.in_order in
-    let around = gap inside c.self.inside.senses.items c.self.inside.kept c.args.self.now c.self.view_is c.self.invariant.0 ordered c.args.fresh.word
+    let around = gap inside c.self.inside.budget c.self.inside.senses.items c.self.inside.kept c.args.self.now c.self.view_is c.self.invariant.0 ordered
+    c.args.fresh.word
     c.place-place.result c.place-place.ensures c.args.fresh.at c.requires.place in
     rw (c.as_slice.ensures.articles, c.deref.ensures.value)
-    (gap_known inside c.self.inside.senses.items c.self.inside.kept c.args.self.now c.self.view_is c.self.invariant.0 ordered c.args.fresh.word
+    (gap_known inside c.self.inside.budget c.self.inside.senses.items c.self.inside.kept c.args.self.now c.self.view_is c.self.invariant.0 ordered
+    c.args.fresh.word
     c.place-place.result c.place-place.ensures c.args.fresh.at c.requires.place)
 
 pub standing-requires-clause-over : goal.standing-requires-clause-over
 standing-requires-clause-over c =
-    let inside : State = record {
+    let inside : Stored = record {
       grammar = c.self.inside.grammar;
-      budget = c.self.inside.budget;
       words = c.self.inside.lexicon;
       articles = c.self.inside.articles;
     } in
     let ordered : AreInOrder c.self.inside.articles = c.as_slice.ensures.in_order in
-    let around = gap inside c.self.inside.senses.items c.self.inside.kept c.args.self.now c.self.view_is c.self.invariant.0 ordered c.args.fresh.word
+    let around = gap inside c.self.inside.budget c.self.inside.senses.items c.self.inside.kept c.args.self.now c.self.view_is c.self.invariant.0 ordered
+    c.args.fresh.word
     c.place-place.result c.place-place.ensures c.args.fresh.at c.requires.place in
     rw (c.as_slice.ensures.articles, c.deref.ensures.value)
-    (over_inside inside c.self.inside.senses.items c.self.inside.kept c.args.self.now c.self.view_is c.self.invariant.0 ordered c.args.fresh.word
+    (over_inside inside c.self.inside.budget c.self.inside.senses.items c.self.inside.kept c.args.self.now c.self.view_is c.self.invariant.0 ordered
+    c.args.fresh.word
     c.place-place.result c.place-place.ensures c.args.fresh.at c.args.fresh.at around c.args.fresh.tokens c.args.fresh.sense c.requires.means
     c.are_apart.ensures.sound c.are_apart.ensures.apart)
 
 pub standing-requires-clause-plain : goal.standing-requires-clause-plain
 standing-requires-clause-plain c =
-    let inside : State = record {
+    let inside : Stored = record {
       grammar = c.self.inside.grammar;
-      budget = c.self.inside.budget;
       words = c.self.inside.lexicon;
       articles = c.self.inside.articles;
     } in
     let ordered : AreInOrder c.self.inside.articles = c.as_slice.ensures.in_order in
-    let around = gap inside c.self.inside.senses.items c.self.inside.kept c.args.self.now c.self.view_is c.self.invariant.0 ordered c.args.fresh.word
+    let around = gap inside c.self.inside.budget c.self.inside.senses.items c.self.inside.kept c.args.self.now c.self.view_is c.self.invariant.0 ordered
+    c.args.fresh.word
     c.place-place.result c.place-place.ensures c.args.fresh.at c.requires.place in
     rw (c.as_slice.ensures.articles, c.deref.ensures.value)
-    (plain_inside inside c.self.inside.senses.items c.self.inside.kept c.args.self.now c.self.view_is c.self.invariant.0 ordered c.args.fresh.word
+    (plain_inside inside c.self.inside.budget c.self.inside.senses.items c.self.inside.kept c.args.self.now c.self.view_is c.self.invariant.0 ordered
+    c.args.fresh.word
     c.place-place.result c.place-place.ensures c.args.fresh.at c.args.fresh.at around c.args.fresh.tokens c.args.fresh.sense c.requires.means
     c.are_apart.ensures.sound c.are_apart.ensures.apart)
 
 pub index_mut-requires : goal.index_mut-requires
 index_mut-requires c =
-    let inside : State = record {
+    let inside : Stored = record {
       grammar = c.self.inside.grammar;
-      budget = c.self.inside.budget;
       words = c.self.inside.lexicon;
       articles = c.self.inside.articles;
     } in
     let ordered : AreInOrder c.self.inside.articles = c.as_slice.ensures.in_order in
-    let around = gap inside c.self.inside.senses.items c.self.inside.kept c.args.self.now c.self.view_is c.self.invariant.0 ordered c.args.fresh.word
+    let around = gap inside c.self.inside.budget c.self.inside.senses.items c.self.inside.kept c.args.self.now c.self.view_is c.self.invariant.0 ordered
+    c.args.fresh.word
     c.place-place.result c.place-place.ensures c.args.fresh.at c.requires.place in
     let within = slice_get_within c.self.inside.senses.items c.place-place.result around.own around.meant in
     let same : length c.deref.result.now ≡ length c.self.inside.senses.items = ap length c.deref.ensures.value in
@@ -97,14 +100,14 @@ index_mut-requires c =
 
 pub insert-requires : goal.insert-requires
 insert-requires c =
-    let inside : State = record {
+    let inside : Stored = record {
       grammar = c.self.inside.grammar;
-      budget = c.self.inside.budget;
       words = c.self.inside.lexicon;
       articles = c.self.inside.articles;
     } in
     let ordered : AreInOrder c.self.inside.articles = c.as_slice.ensures.in_order in
-    let around = gap inside c.self.inside.senses.items c.self.inside.kept c.args.self.now c.self.view_is c.self.invariant.0 ordered c.args.fresh.word
+    let around = gap inside c.self.inside.budget c.self.inside.senses.items c.self.inside.kept c.args.self.now c.self.view_is c.self.invariant.0 ordered
+    c.args.fresh.word
     c.place-place.result c.place-place.ensures c.args.fresh.at c.requires.place in
     let before : c.index_mut.result.now ≡ around.own =
     item-is c.self.inside.senses.items c.place-place.result c.index_mut.result.now around.own around.meant c.index_mut.ensures.value in
@@ -113,14 +116,14 @@ insert-requires c =
 
 pub invariant_of-self-in-Some : goal.invariant_of-self-in-Some
 invariant_of-self-in-Some c =
-    let inside : State = record {
+    let inside : Stored = record {
       grammar = c.self.inside.grammar;
-      budget = c.self.inside.budget;
       words = c.self.inside.lexicon;
       articles = c.self.inside.articles;
     } in
     let ordered : AreInOrder c.self.inside.articles = c.as_slice.ensures.in_order in
-    let around = gap inside c.self.inside.senses.items c.self.inside.kept c.args.self.now c.self.view_is c.self.invariant.0 ordered c.args.fresh.word
+    let around = gap inside c.self.inside.budget c.self.inside.senses.items c.self.inside.kept c.args.self.now c.self.view_is c.self.invariant.0 ordered
+    c.args.fresh.word
     c.place-place.result c.place-place.ensures c.args.fresh.at c.requires.place in
     let stands : Stands (known_around c.self.inside.articles c.self.inside.senses.items c.place-place.result c.args.fresh.at
     (stated_by (meaning_shown c.args.fresh.sense)) c.args.fresh.at) (live_names c.self.inside.lexicon) c.self.inside.budget
@@ -146,7 +149,8 @@ invariant_of-self-in-Some c =
     c.in_ok-status.ensures.model) in
     let room : length (sentences_in c.self.inside.articles) < MOST_SENTENCES =
     subst (λ (h : Holding). length (sentences_in h.state.articles) < MOST_SENTENCES) (sym c.self.view_is) c.requires.room in (
-      keeps_inside inside c.self.inside.senses.items c.self.inside.kept c.args.self.now c.self.view_is c.self.invariant.0 ordered c.args.fresh.word
+      keeps_inside inside c.self.inside.budget c.self.inside.senses.items c.self.inside.kept c.args.self.now c.self.view_is c.self.invariant.0 ordered
+          c.args.fresh.word
           c.place-place.result c.place-place.ensures c.args.fresh.at c.args.fresh.at around c.args.fresh.tokens c.args.fresh.sense c.requires.means put
           (λ st. refl) c.in_ok-status.status stands c.insert-2.new.self c.insert.new.self c.in-Some.model c.in-Ok.ensures.ok
           (c.in_ok-insert.ensures.ok ∙ ap (λ (ms : List Sense). insert ms c.args.fresh.at c.args.fresh.sense) before) c.requires.few (omega (arith, room))
@@ -156,14 +160,14 @@ invariant_of-self-in-Some c =
 
 pub invariant_of-self-in-Ok : goal.invariant_of-self-in-Ok
 invariant_of-self-in-Ok c =
-    let inside : State = record {
+    let inside : Stored = record {
       grammar = c.self.inside.grammar;
-      budget = c.self.inside.budget;
       words = c.self.inside.lexicon;
       articles = c.self.inside.articles;
     } in
     let ordered : AreInOrder c.self.inside.articles = c.as_slice.ensures.in_order in
-    let around = gap inside c.self.inside.senses.items c.self.inside.kept c.args.self.now c.self.view_is c.self.invariant.0 ordered c.args.fresh.word
+    let around = gap inside c.self.inside.budget c.self.inside.senses.items c.self.inside.kept c.args.self.now c.self.view_is c.self.invariant.0 ordered
+    c.args.fresh.word
     c.place-place.result c.place-place.ensures c.args.fresh.at c.requires.place in
     let stands : Stands (known_around c.self.inside.articles c.self.inside.senses.items c.place-place.result c.args.fresh.at
     (stated_by (meaning_shown c.args.fresh.sense)) c.args.fresh.at) (live_names c.self.inside.lexicon) c.self.inside.budget
@@ -189,7 +193,8 @@ invariant_of-self-in-Ok c =
     c.in_ok-status.ensures.model) in
     let room : length (sentences_in c.self.inside.articles) < MOST_SENTENCES =
     subst (λ (h : Holding). length (sentences_in h.state.articles) < MOST_SENTENCES) (sym c.self.view_is) c.requires.room in (
-      keeps_inside inside c.self.inside.senses.items c.self.inside.kept c.args.self.now c.self.view_is c.self.invariant.0 ordered c.args.fresh.word
+      keeps_inside inside c.self.inside.budget c.self.inside.senses.items c.self.inside.kept c.args.self.now c.self.view_is c.self.invariant.0 ordered
+          c.args.fresh.word
           c.place-place.result c.place-place.ensures c.args.fresh.at c.args.fresh.at around c.args.fresh.tokens c.args.fresh.sense c.requires.means put
           (λ st. refl) c.in_ok-status.status stands c.insert-2.new.self c.insert.new.self c.self.inside.kept c.in-Ok.ensures.ok
           (c.in_ok-insert.ensures.ok ∙ ap (λ (ms : List Sense). insert ms c.args.fresh.at c.args.fresh.sense) before) c.requires.few (omega (arith, room))
@@ -199,14 +204,14 @@ invariant_of-self-in-Ok c =
 
 pub index_mut-requires-in-Err : goal.index_mut-requires-in-Err
 index_mut-requires-in-Err c =
-    let inside : State = record {
+    let inside : Stored = record {
       grammar = c.self.inside.grammar;
-      budget = c.self.inside.budget;
       words = c.self.inside.lexicon;
       articles = c.self.inside.articles;
     } in
     let ordered : AreInOrder c.self.inside.articles = c.as_slice.ensures.in_order in
-    let around = gap inside c.self.inside.senses.items c.self.inside.kept c.args.self.now c.self.view_is c.self.invariant.0 ordered c.args.fresh.word
+    let around = gap inside c.self.inside.budget c.self.inside.senses.items c.self.inside.kept c.args.self.now c.self.view_is c.self.invariant.0 ordered
+    c.args.fresh.word
     c.place-place.result c.place-place.ensures c.args.fresh.at c.requires.place in
     let within = slice_get_within c.self.inside.senses.items c.place-place.result around.own around.meant in
     let same : length c.deref.result.now ≡ length c.self.inside.senses.items = ap length c.deref.ensures.value in
@@ -214,14 +219,14 @@ index_mut-requires-in-Err c =
 
 pub remove-requires : goal.remove-requires
 remove-requires c =
-    let inside : State = record {
+    let inside : Stored = record {
       grammar = c.self.inside.grammar;
-      budget = c.self.inside.budget;
       words = c.self.inside.lexicon;
       articles = c.self.inside.articles;
     } in
     let ordered : AreInOrder c.self.inside.articles = c.as_slice.ensures.in_order in
-    let around = gap inside c.self.inside.senses.items c.self.inside.kept c.args.self.now c.self.view_is c.self.invariant.0 ordered c.args.fresh.word
+    let around = gap inside c.self.inside.budget c.self.inside.senses.items c.self.inside.kept c.args.self.now c.self.view_is c.self.invariant.0 ordered
+    c.args.fresh.word
     c.place-place.result c.place-place.ensures c.args.fresh.at c.requires.place in
     let before : c.index_mut.result.now ≡ around.own =
     item-is c.self.inside.senses.items c.place-place.result c.index_mut.result.now around.own around.meant c.index_mut.ensures.value in
@@ -238,14 +243,14 @@ remove-requires c =
 
 pub invariant_of-self-in-Err : goal.invariant_of-self-in-Err
 invariant_of-self-in-Err c =
-    let inside : State = record {
+    let inside : Stored = record {
       grammar = c.self.inside.grammar;
-      budget = c.self.inside.budget;
       words = c.self.inside.lexicon;
       articles = c.self.inside.articles;
     } in
     let ordered : AreInOrder c.self.inside.articles = c.as_slice.ensures.in_order in
-    let around = gap inside c.self.inside.senses.items c.self.inside.kept c.args.self.now c.self.view_is c.self.invariant.0 ordered c.args.fresh.word
+    let around = gap inside c.self.inside.budget c.self.inside.senses.items c.self.inside.kept c.args.self.now c.self.view_is c.self.invariant.0 ordered
+    c.args.fresh.word
     c.place-place.result c.place-place.ensures c.args.fresh.at c.requires.place in
     let in_own : c.args.fresh.at ≤ length around.own = omega (arith, around.many, around.within) in
     let back = undone c.self.inside.senses.items c.place-place.result c.args.fresh.at around.own c.index_mut.result.now c.insert.new.self
@@ -260,14 +265,14 @@ invariant_of-self-in-Err c =
 
 pub invariant_of-self-in-Err-2 : goal.invariant_of-self-in-Err-2
 invariant_of-self-in-Err-2 c =
-    let inside : State = record {
+    let inside : Stored = record {
       grammar = c.self.inside.grammar;
-      budget = c.self.inside.budget;
       words = c.self.inside.lexicon;
       articles = c.self.inside.articles;
     } in
     let ordered : AreInOrder c.self.inside.articles = c.as_slice.ensures.in_order in
-    let around = gap inside c.self.inside.senses.items c.self.inside.kept c.args.self.now c.self.view_is c.self.invariant.0 ordered c.args.fresh.word
+    let around = gap inside c.self.inside.budget c.self.inside.senses.items c.self.inside.kept c.args.self.now c.self.view_is c.self.invariant.0 ordered
+    c.args.fresh.word
     c.place-place.result c.place-place.ensures c.args.fresh.at c.requires.place in
     let in_own : c.args.fresh.at ≤ length around.own = omega (arith, around.many, around.within) in
     let back = undone c.self.inside.senses.items c.place-place.result c.args.fresh.at around.own c.index_mut.result.now c.insert.new.self
@@ -282,14 +287,14 @@ invariant_of-self-in-Err-2 c =
 
 pub returns-in-Some-clause-status : goal.returns-in-Some-clause-status
 returns-in-Some-clause-status c =
-    let inside : State = record {
+    let inside : Stored = record {
       grammar = c.self.inside.grammar;
-      budget = c.self.inside.budget;
       words = c.self.inside.lexicon;
       articles = c.self.inside.articles;
     } in
     let ordered : AreInOrder c.self.inside.articles = c.as_slice.ensures.in_order in
-    let around = gap inside c.self.inside.senses.items c.self.inside.kept c.args.self.now c.self.view_is c.self.invariant.0 ordered c.args.fresh.word
+    let around = gap inside c.self.inside.budget c.self.inside.senses.items c.self.inside.kept c.args.self.now c.self.view_is c.self.invariant.0 ordered
+    c.args.fresh.word
     c.place-place.result c.place-place.ensures c.args.fresh.at c.requires.place in
     let stands : Stands (known_around c.self.inside.articles c.self.inside.senses.items c.place-place.result c.args.fresh.at
     (stated_by (meaning_shown c.args.fresh.sense)) c.args.fresh.at) (live_names c.self.inside.lexicon) c.self.inside.budget
@@ -300,20 +305,21 @@ returns-in-Some-clause-status c =
     c.as_slice.result.now c.self.inside.articles c.deref.result.now c.self.inside.senses.items c.as_slice.ensures.articles c.deref.ensures.value
     c.in_ok-status.ensures.status in
     let put : Status → List Sentence → List Sentence = λ st ss. insert ss c.args.fresh.at (record { tokens = c.args.fresh.tokens; status = st }) in
-    status_outside inside c.self.inside.senses.items c.self.inside.kept c.args.self.now c.self.view_is c.self.invariant.0 ordered c.args.fresh.word
+    status_outside inside c.self.inside.budget c.self.inside.senses.items c.self.inside.kept c.args.self.now c.self.view_is c.self.invariant.0 ordered
+    c.args.fresh.word
     c.place-place.result c.place-place.ensures c.args.fresh.at c.args.fresh.at around c.args.fresh.tokens c.args.fresh.sense c.requires.means put
     (λ st. refl) c.in_ok-status.status stands
 
 pub returns-in-Some-clause-spent : goal.returns-in-Some-clause-spent
 returns-in-Some-clause-spent c =
-    let inside : State = record {
+    let inside : Stored = record {
       grammar = c.self.inside.grammar;
-      budget = c.self.inside.budget;
       words = c.self.inside.lexicon;
       articles = c.self.inside.articles;
     } in
     let ordered : AreInOrder c.self.inside.articles = c.as_slice.ensures.in_order in
-    let around = gap inside c.self.inside.senses.items c.self.inside.kept c.args.self.now c.self.view_is c.self.invariant.0 ordered c.args.fresh.word
+    let around = gap inside c.self.inside.budget c.self.inside.senses.items c.self.inside.kept c.args.self.now c.self.view_is c.self.invariant.0 ordered
+    c.args.fresh.word
     c.place-place.result c.place-place.ensures c.args.fresh.at c.requires.place in
     let stands : Stands (known_around c.self.inside.articles c.self.inside.senses.items c.place-place.result c.args.fresh.at
     (stated_by (meaning_shown c.args.fresh.sense)) c.args.fresh.at) (live_names c.self.inside.lexicon) c.self.inside.budget
@@ -325,7 +331,8 @@ returns-in-Some-clause-spent c =
     c.in_ok-status.ensures.status in
     let put : Status → List Sentence → List Sentence = λ st ss. insert ss c.args.fresh.at (record { tokens = c.args.fresh.tokens; status = st }) in
     λ red.
-    spends_outside inside c.self.inside.senses.items c.self.inside.kept c.args.self.now c.self.view_is c.self.invariant.0 ordered c.args.fresh.word
+    spends_outside inside c.self.inside.budget c.self.inside.senses.items c.self.inside.kept c.args.self.now c.self.view_is c.self.invariant.0 ordered
+    c.args.fresh.word
     c.place-place.result c.place-place.ensures c.args.fresh.at c.args.fresh.at around c.args.fresh.tokens c.args.fresh.sense c.requires.means put
     (λ st. refl) c.in_ok-status.status stands red
     (moved (λ (xs : List Article) (ms : List (List Sense)). IsModel (kept_interp c.self.inside.kept)
@@ -335,14 +342,14 @@ returns-in-Some-clause-spent c =
 
 pub returns-in_default-clause-status : goal.returns-in_default-clause-status
 returns-in_default-clause-status c =
-    let inside : State = record {
+    let inside : Stored = record {
       grammar = c.self.inside.grammar;
-      budget = c.self.inside.budget;
       words = c.self.inside.lexicon;
       articles = c.self.inside.articles;
     } in
     let ordered : AreInOrder c.self.inside.articles = c.as_slice.ensures.in_order in
-    let around = gap inside c.self.inside.senses.items c.self.inside.kept c.args.self.now c.self.view_is c.self.invariant.0 ordered c.args.fresh.word
+    let around = gap inside c.self.inside.budget c.self.inside.senses.items c.self.inside.kept c.args.self.now c.self.view_is c.self.invariant.0 ordered
+    c.args.fresh.word
     c.place-place.result c.place-place.ensures c.args.fresh.at c.requires.place in
     let stands : Stands (known_around c.self.inside.articles c.self.inside.senses.items c.place-place.result c.args.fresh.at
     (stated_by (meaning_shown c.args.fresh.sense)) c.args.fresh.at) (live_names c.self.inside.lexicon) c.self.inside.budget
@@ -353,20 +360,21 @@ returns-in_default-clause-status c =
     c.as_slice.result.now c.self.inside.articles c.deref.result.now c.self.inside.senses.items c.as_slice.ensures.articles c.deref.ensures.value
     c.in_ok-status.ensures.status in
     let put : Status → List Sentence → List Sentence = λ st ss. insert ss c.args.fresh.at (record { tokens = c.args.fresh.tokens; status = st }) in
-    status_outside inside c.self.inside.senses.items c.self.inside.kept c.args.self.now c.self.view_is c.self.invariant.0 ordered c.args.fresh.word
+    status_outside inside c.self.inside.budget c.self.inside.senses.items c.self.inside.kept c.args.self.now c.self.view_is c.self.invariant.0 ordered
+    c.args.fresh.word
     c.place-place.result c.place-place.ensures c.args.fresh.at c.args.fresh.at around c.args.fresh.tokens c.args.fresh.sense c.requires.means put
     (λ st. refl) c.in_ok-status.status stands
 
 pub returns-in_default-clause-spent : goal.returns-in_default-clause-spent
 returns-in_default-clause-spent c =
-    let inside : State = record {
+    let inside : Stored = record {
       grammar = c.self.inside.grammar;
-      budget = c.self.inside.budget;
       words = c.self.inside.lexicon;
       articles = c.self.inside.articles;
     } in
     let ordered : AreInOrder c.self.inside.articles = c.as_slice.ensures.in_order in
-    let around = gap inside c.self.inside.senses.items c.self.inside.kept c.args.self.now c.self.view_is c.self.invariant.0 ordered c.args.fresh.word
+    let around = gap inside c.self.inside.budget c.self.inside.senses.items c.self.inside.kept c.args.self.now c.self.view_is c.self.invariant.0 ordered
+    c.args.fresh.word
     c.place-place.result c.place-place.ensures c.args.fresh.at c.requires.place in
     let stands : Stands (known_around c.self.inside.articles c.self.inside.senses.items c.place-place.result c.args.fresh.at
     (stated_by (meaning_shown c.args.fresh.sense)) c.args.fresh.at) (live_names c.self.inside.lexicon) c.self.inside.budget
@@ -378,7 +386,8 @@ returns-in_default-clause-spent c =
     c.in_ok-status.ensures.status in
     let put : Status → List Sentence → List Sentence = λ st ss. insert ss c.args.fresh.at (record { tokens = c.args.fresh.tokens; status = st }) in
     λ red.
-    spends_outside inside c.self.inside.senses.items c.self.inside.kept c.args.self.now c.self.view_is c.self.invariant.0 ordered c.args.fresh.word
+    spends_outside inside c.self.inside.budget c.self.inside.senses.items c.self.inside.kept c.args.self.now c.self.view_is c.self.invariant.0 ordered
+    c.args.fresh.word
     c.place-place.result c.place-place.ensures c.args.fresh.at c.args.fresh.at around c.args.fresh.tokens c.args.fresh.sense c.requires.means put
     (λ st. refl) c.in_ok-status.status stands red
     (moved (λ (xs : List Article) (ms : List (List Sense)). IsModel (kept_interp c.self.inside.kept)
@@ -388,9 +397,8 @@ returns-in_default-clause-spent c =
 
 pub returns-in-Some-clause-after : goal.returns-in-Some-clause-after
 returns-in-Some-clause-after c =
-    let inside : State = record {
+    let inside : Stored = record {
       grammar = c.self.inside.grammar;
-      budget = c.self.inside.budget;
       words = c.self.inside.lexicon;
       articles = c.self.inside.articles;
     } in
@@ -400,9 +408,8 @@ returns-in-Some-clause-after c =
 
 pub returns-in_default-clause-after : goal.returns-in_default-clause-after
 returns-in_default-clause-after c =
-    let inside : State = record {
+    let inside : Stored = record {
       grammar = c.self.inside.grammar;
-      budget = c.self.inside.budget;
       words = c.self.inside.lexicon;
       articles = c.self.inside.articles;
     } in

@@ -14,27 +14,27 @@ use Rattle.articles.specs.declared.sentences.Sentence.{Sentence}
 use Rattle.articles.specs.declared.article.Article.{Article}
 use Rattle.articles.specs.Articles.{AreInOrder}
 use Rattle.wiki_parts.specs.declared.meanings.Sense.{Sense}
-use Rattle.wiki_parts.specs.State.{State}
+use Rattle.plain_wiki.specs.State.{Stored}
 use Rattle.wiki_parts.specs.Holding.{Holding}
 use Rattle.wiki_parts.specs.Found.{meaning_shown}
-use Rattle.wiki_parts.specs.Knowledge.{live_names, sentences_in}
+use Rattle.plain_wiki.specs.Knowledge.{live_names, sentences_in}
 use Rattle.wiki_parts.specs.Kept.{stated_by, known_around, known_in, IsAround, Stands, IsKeeping}
 use Rattle.wiki_store.specs.Settled.{IsTrueIn}
-use Rattle.wiki_store.specs.Step.{with_inserted}
+use Rattle.plain_wiki.specs.Doing.{with_inserted}
 use Rattle.wiki_store.proofs.JoiningLemmas.{settled-states, settled-stands, not-red, keeps-claims}
 use Rattle.wiki_store.proofs.InsideLemmas.{moved, gap, gap_own, status_outside, keeps_inside}
 use Rattle.wiki_store.proofs.base.Base.insert_true.Goals as goal
 
 pub join-requires-clause-around : goal.join-requires-clause-around
 join-requires-clause-around c =
-    let inside : State = record {
+    let inside : Stored = record {
       grammar = c.self.inside.grammar;
-      budget = c.self.inside.budget;
       words = c.self.inside.lexicon;
       articles = c.self.inside.articles;
     } in
     let ordered : AreInOrder c.self.inside.articles = c.as_slice.ensures.in_order in
-    let around = gap inside c.self.inside.senses.items c.self.inside.kept c.args.self.now c.self.view_is c.self.invariant.0 ordered c.args.fresh.word
+    let around = gap inside c.self.inside.budget c.self.inside.senses.items c.self.inside.kept c.args.self.now c.self.view_is c.self.invariant.0 ordered
+    c.args.fresh.word
     c.place-place.result c.place-place.ensures c.args.fresh.at c.requires.place in
     let many = around.many in
     let rising = around.within in
@@ -52,9 +52,8 @@ join-requires-clause-model c =
 
 pub invariant_of-self : goal.invariant_of-self
 invariant_of-self c =
-    let inside : State = record {
+    let inside : Stored = record {
       grammar = c.self.inside.grammar;
-      budget = c.self.inside.budget;
       words = c.self.inside.lexicon;
       articles = c.self.inside.articles;
     } in
@@ -62,39 +61,38 @@ invariant_of-self c =
 
 pub returns-in_err-join-clause-memory : goal.returns-in_err-join-clause-memory
 returns-in_err-join-clause-memory c =
-    let inside : State = record {
+    let inside : Stored = record {
       grammar = c.self.inside.grammar;
-      budget = c.self.inside.budget;
       words = c.self.inside.lexicon;
       articles = c.self.inside.articles;
     } in
-    let after : Holding = record { state = inside; interpretation = kept_interp c.join.new.kept } in
+    let after : Holding = record { state = inside; budget = c.self.inside.budget; interpretation = kept_interp c.join.new.kept } in
     OnErr_any {P = after ≡ c.args.self.now} c.from_residual-in_err-join.result
-    (ap (λ (i : Interpretation). record { state = inside; interpretation = i }) c.join.ensures.interp ∙ c.self.view_is)
+    (ap (λ (i : Interpretation). record { state = inside; budget = c.self.inside.budget; interpretation = i }) c.join.ensures.interp ∙ c.self.view_is)
 
 pub put-requires-clause-own : goal.put-requires-clause-own
 put-requires-clause-own c =
-    let inside : State = record {
+    let inside : Stored = record {
       grammar = c.self.inside.grammar;
-      budget = c.self.inside.budget;
       words = c.self.inside.lexicon;
       articles = c.self.inside.articles;
     } in
     let ordered : AreInOrder c.self.inside.articles = c.as_slice.ensures.in_order in
-    let own = gap_own inside c.self.inside.senses.items c.self.inside.kept c.args.self.now c.self.view_is c.self.invariant.0 ordered c.args.fresh.word
+    let own = gap_own inside c.self.inside.budget c.self.inside.senses.items c.self.inside.kept c.args.self.now c.self.view_is c.self.invariant.0 ordered
+    c.args.fresh.word
     c.place-place.result c.place-place.ensures c.args.fresh.at c.requires.place in
     own
 
 pub invariant_of-self-in-Ok : goal.invariant_of-self-in-Ok
 invariant_of-self-in-Ok c =
-    let inside : State = record {
+    let inside : Stored = record {
       grammar = c.self.inside.grammar;
-      budget = c.self.inside.budget;
       words = c.self.inside.lexicon;
       articles = c.self.inside.articles;
     } in
     let ordered : AreInOrder c.self.inside.articles = c.as_slice.ensures.in_order in
-    let around = gap inside c.self.inside.senses.items c.self.inside.kept c.args.self.now c.self.view_is c.self.invariant.0 ordered c.args.fresh.word
+    let around = gap inside c.self.inside.budget c.self.inside.senses.items c.self.inside.kept c.args.self.now c.self.view_is c.self.invariant.0 ordered
+    c.args.fresh.word
     c.place-place.result c.place-place.ensures c.args.fresh.at c.requires.place in
     let many = around.many in
     let rising = around.within in
@@ -120,7 +118,8 @@ invariant_of-self-in-Ok c =
     subst (λ (h : Holding). length (sentences_in h.state.articles) < MOST_SENTENCES) (sym c.self.view_is) c.requires.room in (
       subst (λ (ms : List (List Sense)). IsKeeping (record inside { articles = c.put.new.articles }) ms c.join.new.kept)
           (sym (c.in-Ok.ensures.senses around.own around.meant))
-          (keeps_inside inside c.self.inside.senses.items c.self.inside.kept c.args.self.now c.self.view_is c.self.invariant.0 ordered c.args.fresh.word
+          (keeps_inside inside c.self.inside.budget c.self.inside.senses.items c.self.inside.kept c.args.self.now c.self.view_is c.self.invariant.0 ordered
+          c.args.fresh.word
           c.place-place.result c.place-place.ensures c.args.fresh.at c.args.fresh.at around c.args.fresh.tokens c.args.fresh.sense c.requires.means put
           (λ st. refl) Asserted stands c.put.new.articles (insert around.own c.args.fresh.at c.args.fresh.sense) c.join.new.kept c.in-Ok.ensures.articles
           refl c.requires.few (omega (arith, room)) joined),
@@ -129,14 +128,14 @@ invariant_of-self-in-Ok c =
 
 pub returns-in-Ok-clause-status : goal.returns-in-Ok-clause-status
 returns-in-Ok-clause-status c =
-    let inside : State = record {
+    let inside : Stored = record {
       grammar = c.self.inside.grammar;
-      budget = c.self.inside.budget;
       words = c.self.inside.lexicon;
       articles = c.self.inside.articles;
     } in
     let ordered : AreInOrder c.self.inside.articles = c.as_slice.ensures.in_order in
-    let around = gap inside c.self.inside.senses.items c.self.inside.kept c.args.self.now c.self.view_is c.self.invariant.0 ordered c.args.fresh.word
+    let around = gap inside c.self.inside.budget c.self.inside.senses.items c.self.inside.kept c.args.self.now c.self.view_is c.self.invariant.0 ordered
+    c.args.fresh.word
     c.place-place.result c.place-place.ensures c.args.fresh.at c.requires.place in
     let many = around.many in
     let rising = around.within in
@@ -158,15 +157,15 @@ returns-in-Ok-clause-status c =
     (subst (λ (h : Holding). IsTrueIn h.interpretation (meaning_shown c.args.fresh.sense)) (sym c.self.view_is) c.requires.settled)
     (subst (λ (cs : List Claim). IsFiniteModel (kept_interp c.join.new.kept) cs) joined c.in_ok-join.ensures.finite) in
     let put : Status → List Sentence → List Sentence = λ st ss. insert ss c.args.fresh.at (record { tokens = c.args.fresh.tokens; status = st }) in
-    status_outside inside c.self.inside.senses.items c.self.inside.kept c.args.self.now c.self.view_is c.self.invariant.0 ordered c.args.fresh.word
+    status_outside inside c.self.inside.budget c.self.inside.senses.items c.self.inside.kept c.args.self.now c.self.view_is c.self.invariant.0 ordered
+    c.args.fresh.word
     c.place-place.result c.place-place.ensures c.args.fresh.at c.args.fresh.at around c.args.fresh.tokens c.args.fresh.sense c.requires.means put
     (λ st. refl) Asserted stands
 
 pub returns-in-Ok-clause-after : goal.returns-in-Ok-clause-after
 returns-in-Ok-clause-after c =
-    let inside : State = record {
+    let inside : Stored = record {
       grammar = c.self.inside.grammar;
-      budget = c.self.inside.budget;
       words = c.self.inside.lexicon;
       articles = c.self.inside.articles;
     } in
@@ -179,14 +178,14 @@ returns-in-Ok-clause-spent c =
 
 pub undo-requires-clause-around : goal.undo-requires-clause-around
 undo-requires-clause-around c =
-    let inside : State = record {
+    let inside : Stored = record {
       grammar = c.self.inside.grammar;
-      budget = c.self.inside.budget;
       words = c.self.inside.lexicon;
       articles = c.self.inside.articles;
     } in
     let ordered : AreInOrder c.self.inside.articles = c.as_slice.ensures.in_order in
-    let around = gap inside c.self.inside.senses.items c.self.inside.kept c.args.self.now c.self.view_is c.self.invariant.0 ordered c.args.fresh.word
+    let around = gap inside c.self.inside.budget c.self.inside.senses.items c.self.inside.kept c.args.self.now c.self.view_is c.self.invariant.0 ordered
+    c.args.fresh.word
     c.place-place.result c.place-place.ensures c.args.fresh.at c.requires.place in
     subst (λ (xs : List Article). IsAround xs c.deref-in-Err.result.now c.place-place.result c.args.fresh.at c.args.fresh.at)
     (sym (c.as_slice-articles.ensures.articles ∙ c.in-Err.ensures.articles_stay))
@@ -206,9 +205,8 @@ undo-requires-clause-joined c = (
 
 pub invariant_of-self-in-Err : goal.invariant_of-self-in-Err
 invariant_of-self-in-Err c =
-    let inside : State = record {
+    let inside : Stored = record {
       grammar = c.self.inside.grammar;
-      budget = c.self.inside.budget;
       words = c.self.inside.lexicon;
       articles = c.self.inside.articles;
     } in

@@ -9,26 +9,26 @@ use Rattle.articles.specs.declared.sentences.Sentence.{Sentence}
 use Rattle.articles.specs.declared.article.Article.{Article}
 use Rattle.articles.specs.Articles.{AreInOrder}
 use Rattle.wiki_parts.specs.declared.meanings.Sense.{Sense}
-use Rattle.wiki_parts.specs.State.{State}
+use Rattle.plain_wiki.specs.State.{Stored}
 use Rattle.wiki_parts.specs.Holding.{Holding}
 use Rattle.wiki_parts.specs.Found.{meaning_shown}
-use Rattle.wiki_parts.specs.Knowledge.{is_asserted, live_names}
+use Rattle.plain_wiki.specs.Knowledge.{is_asserted, live_names}
 use Rattle.wiki_parts.specs.Kept.{stated_by, known_around, Stands}
-use Rattle.wiki_store.specs.Step.{with_replaced}
+use Rattle.plain_wiki.specs.Doing.{with_replaced}
 use Rattle.wiki_store.proofs.AroundLemmas.{set_parts}
 use Rattle.wiki_store.proofs.InsideLemmas.{item-is, moved, spot, over_inside, plain_inside, status_outside, spends_outside, keeps_inside}
 use Rattle.wiki_store.proofs.base.Base.replace_judged.Goals as goal
 
 pub model_without-requires-clause-around : goal.model_without-requires-clause-around
 model_without-requires-clause-around c =
-    let inside : State = record {
+    let inside : Stored = record {
       grammar = c.self.inside.grammar;
-      budget = c.self.inside.budget;
       words = c.self.inside.lexicon;
       articles = c.self.inside.articles;
     } in
     let ordered : AreInOrder c.self.inside.articles = c.as_slice.ensures.in_order in
-    let around = spot inside c.self.inside.senses.items c.self.inside.kept c.args.self.now c.self.view_is c.self.invariant.0 ordered c.args.fresh.word
+    let around = spot inside c.self.inside.budget c.self.inside.senses.items c.self.inside.kept c.args.self.now c.self.view_is c.self.invariant.0 ordered
+    c.args.fresh.word
     c.place-place.result c.place-place.ensures c.args.fresh.at c.requires.place in
     let many = around.many in
     let rising = around.within in
@@ -36,14 +36,14 @@ model_without-requires-clause-around c =
 
 pub standing-requires-clause-around : goal.standing-requires-clause-around
 standing-requires-clause-around c =
-    let inside : State = record {
+    let inside : Stored = record {
       grammar = c.self.inside.grammar;
-      budget = c.self.inside.budget;
       words = c.self.inside.lexicon;
       articles = c.self.inside.articles;
     } in
     let ordered : AreInOrder c.self.inside.articles = c.as_slice.ensures.in_order in
-    let around = spot inside c.self.inside.senses.items c.self.inside.kept c.args.self.now c.self.view_is c.self.invariant.0 ordered c.args.fresh.word
+    let around = spot inside c.self.inside.budget c.self.inside.senses.items c.self.inside.kept c.args.self.now c.self.view_is c.self.invariant.0 ordered
+    c.args.fresh.word
     c.place-place.result c.place-place.ensures c.args.fresh.at c.requires.place in
     let many = around.many in
     let rising = around.within in
@@ -51,50 +51,52 @@ standing-requires-clause-around c =
 
 pub standing-requires-clause-over : goal.standing-requires-clause-over
 standing-requires-clause-over c =
-    let inside : State = record {
+    let inside : Stored = record {
       grammar = c.self.inside.grammar;
-      budget = c.self.inside.budget;
       words = c.self.inside.lexicon;
       articles = c.self.inside.articles;
     } in
     let ordered : AreInOrder c.self.inside.articles = c.as_slice.ensures.in_order in
-    let around = spot inside c.self.inside.senses.items c.self.inside.kept c.args.self.now c.self.view_is c.self.invariant.0 ordered c.args.fresh.word
+    let around = spot inside c.self.inside.budget c.self.inside.senses.items c.self.inside.kept c.args.self.now c.self.view_is c.self.invariant.0 ordered
+    c.args.fresh.word
     c.place-place.result c.place-place.ensures c.args.fresh.at c.requires.place in
     let many = around.many in
     let rising = around.within in
     rw (c.as_slice-2.ensures.articles, c.deref-2.ensures.value)
-    (over_inside inside c.self.inside.senses.items c.self.inside.kept c.args.self.now c.self.view_is c.self.invariant.0 ordered c.args.fresh.word
+    (over_inside inside c.self.inside.budget c.self.inside.senses.items c.self.inside.kept c.args.self.now c.self.view_is c.self.invariant.0 ordered
+    c.args.fresh.word
     c.place-place.result c.place-place.ensures c.args.fresh.at (c.args.fresh.at + 1) around c.args.fresh.tokens c.args.fresh.sense c.requires.means
     c.are_apart.ensures.sound c.are_apart.ensures.apart)
 
 pub standing-requires-clause-plain : goal.standing-requires-clause-plain
 standing-requires-clause-plain c =
-    let inside : State = record {
+    let inside : Stored = record {
       grammar = c.self.inside.grammar;
-      budget = c.self.inside.budget;
       words = c.self.inside.lexicon;
       articles = c.self.inside.articles;
     } in
     let ordered : AreInOrder c.self.inside.articles = c.as_slice.ensures.in_order in
-    let around = spot inside c.self.inside.senses.items c.self.inside.kept c.args.self.now c.self.view_is c.self.invariant.0 ordered c.args.fresh.word
+    let around = spot inside c.self.inside.budget c.self.inside.senses.items c.self.inside.kept c.args.self.now c.self.view_is c.self.invariant.0 ordered
+    c.args.fresh.word
     c.place-place.result c.place-place.ensures c.args.fresh.at c.requires.place in
     let many = around.many in
     let rising = around.within in
     rw (c.as_slice-2.ensures.articles, c.deref-2.ensures.value)
-    (plain_inside inside c.self.inside.senses.items c.self.inside.kept c.args.self.now c.self.view_is c.self.invariant.0 ordered c.args.fresh.word
+    (plain_inside inside c.self.inside.budget c.self.inside.senses.items c.self.inside.kept c.args.self.now c.self.view_is c.self.invariant.0 ordered
+    c.args.fresh.word
     c.place-place.result c.place-place.ensures c.args.fresh.at (c.args.fresh.at + 1) around c.args.fresh.tokens c.args.fresh.sense c.requires.means
     c.are_apart.ensures.sound c.are_apart.ensures.apart)
 
 pub index_mut-requires : goal.index_mut-requires
 index_mut-requires c =
-    let inside : State = record {
+    let inside : Stored = record {
       grammar = c.self.inside.grammar;
-      budget = c.self.inside.budget;
       words = c.self.inside.lexicon;
       articles = c.self.inside.articles;
     } in
     let ordered : AreInOrder c.self.inside.articles = c.as_slice.ensures.in_order in
-    let around = spot inside c.self.inside.senses.items c.self.inside.kept c.args.self.now c.self.view_is c.self.invariant.0 ordered c.args.fresh.word
+    let around = spot inside c.self.inside.budget c.self.inside.senses.items c.self.inside.kept c.args.self.now c.self.view_is c.self.invariant.0 ordered
+    c.args.fresh.word
     c.place-place.result c.place-place.ensures c.args.fresh.at c.requires.place in
     let many = around.many in
     let rising = around.within in
@@ -104,14 +106,14 @@ index_mut-requires c =
 
 pub set-requires : goal.set-requires
 set-requires c =
-    let inside : State = record {
+    let inside : Stored = record {
       grammar = c.self.inside.grammar;
-      budget = c.self.inside.budget;
       words = c.self.inside.lexicon;
       articles = c.self.inside.articles;
     } in
     let ordered : AreInOrder c.self.inside.articles = c.as_slice.ensures.in_order in
-    let around = spot inside c.self.inside.senses.items c.self.inside.kept c.args.self.now c.self.view_is c.self.invariant.0 ordered c.args.fresh.word
+    let around = spot inside c.self.inside.budget c.self.inside.senses.items c.self.inside.kept c.args.self.now c.self.view_is c.self.invariant.0 ordered
+    c.args.fresh.word
     c.place-place.result c.place-place.ensures c.args.fresh.at c.requires.place in
     let many = around.many in
     let rising = around.within in
@@ -122,14 +124,14 @@ set-requires c =
 
 pub invariant_of-self : goal.invariant_of-self
 invariant_of-self c =
-    let inside : State = record {
+    let inside : Stored = record {
       grammar = c.self.inside.grammar;
-      budget = c.self.inside.budget;
       words = c.self.inside.lexicon;
       articles = c.self.inside.articles;
     } in
     let ordered : AreInOrder c.self.inside.articles = c.as_slice.ensures.in_order in
-    let around = spot inside c.self.inside.senses.items c.self.inside.kept c.args.self.now c.self.view_is c.self.invariant.0 ordered c.args.fresh.word
+    let around = spot inside c.self.inside.budget c.self.inside.senses.items c.self.inside.kept c.args.self.now c.self.view_is c.self.invariant.0 ordered
+    c.args.fresh.word
     c.place-place.result c.place-place.ensures c.args.fresh.at c.requires.place in
     let many = around.many in
     let rising = around.within in
@@ -157,7 +159,8 @@ invariant_of-self c =
     (cond (is_asserted c.in_ok-status.status) (stated_by (meaning_shown c.args.fresh.sense)) []) (c.args.fresh.at + 1)) (sym c.unwrap_or.ensures)
     c.in_ok-status.ensures.model) in
     let few = c.self.invariant.0.few in (
-      keeps_inside inside c.self.inside.senses.items c.self.inside.kept c.args.self.now c.self.view_is c.self.invariant.0 ordered c.args.fresh.word
+      keeps_inside inside c.self.inside.budget c.self.inside.senses.items c.self.inside.kept c.args.self.now c.self.view_is c.self.invariant.0 ordered
+          c.args.fresh.word
           c.place-place.result c.place-place.ensures c.args.fresh.at (c.args.fresh.at + 1) around c.args.fresh.tokens c.args.fresh.sense c.requires.means put
           (λ st. set_parts around.article.sentences c.args.fresh.at (record { tokens = c.args.fresh.tokens; status = st }) (omega (arith, rising)))
           c.in_ok-status.status stands c.replace.new.self c.set.new.self c.unwrap_or.result c.replace.ensures.articles
@@ -168,14 +171,14 @@ invariant_of-self c =
 
 pub returns-clause-status : goal.returns-clause-status
 returns-clause-status c =
-    let inside : State = record {
+    let inside : Stored = record {
       grammar = c.self.inside.grammar;
-      budget = c.self.inside.budget;
       words = c.self.inside.lexicon;
       articles = c.self.inside.articles;
     } in
     let ordered : AreInOrder c.self.inside.articles = c.as_slice.ensures.in_order in
-    let around = spot inside c.self.inside.senses.items c.self.inside.kept c.args.self.now c.self.view_is c.self.invariant.0 ordered c.args.fresh.word
+    let around = spot inside c.self.inside.budget c.self.inside.senses.items c.self.inside.kept c.args.self.now c.self.view_is c.self.invariant.0 ordered
+    c.args.fresh.word
     c.place-place.result c.place-place.ensures c.args.fresh.at c.requires.place in
     let many = around.many in
     let rising = around.within in
@@ -188,21 +191,22 @@ returns-clause-status c =
     c.self.inside.articles c.deref-2.result.now c.self.inside.senses.items c.as_slice-2.ensures.articles c.deref-2.ensures.value
     c.in_ok-status.ensures.status in
     let put : Status → List Sentence → List Sentence = λ st ss. set ss c.args.fresh.at (record { tokens = c.args.fresh.tokens; status = st }) in
-    status_outside inside c.self.inside.senses.items c.self.inside.kept c.args.self.now c.self.view_is c.self.invariant.0 ordered c.args.fresh.word
+    status_outside inside c.self.inside.budget c.self.inside.senses.items c.self.inside.kept c.args.self.now c.self.view_is c.self.invariant.0 ordered
+    c.args.fresh.word
     c.place-place.result c.place-place.ensures c.args.fresh.at (c.args.fresh.at + 1) around c.args.fresh.tokens c.args.fresh.sense c.requires.means put
     (λ st. set_parts around.article.sentences c.args.fresh.at (record { tokens = c.args.fresh.tokens; status = st }) (omega (arith, rising)))
     c.in_ok-status.status stands
 
 pub returns-clause-after : goal.returns-clause-after
 returns-clause-after c =
-    let inside : State = record {
+    let inside : Stored = record {
       grammar = c.self.inside.grammar;
-      budget = c.self.inside.budget;
       words = c.self.inside.lexicon;
       articles = c.self.inside.articles;
     } in
     let ordered : AreInOrder c.self.inside.articles = c.as_slice.ensures.in_order in
-    let around = spot inside c.self.inside.senses.items c.self.inside.kept c.args.self.now c.self.view_is c.self.invariant.0 ordered c.args.fresh.word
+    let around = spot inside c.self.inside.budget c.self.inside.senses.items c.self.inside.kept c.args.self.now c.self.view_is c.self.invariant.0 ordered
+    c.args.fresh.word
     c.place-place.result c.place-place.ensures c.args.fresh.at c.requires.place in
     let many = around.many in
     let rising = around.within in
@@ -212,14 +216,14 @@ returns-clause-after c =
 
 pub returns-clause-spent : goal.returns-clause-spent
 returns-clause-spent c =
-    let inside : State = record {
+    let inside : Stored = record {
       grammar = c.self.inside.grammar;
-      budget = c.self.inside.budget;
       words = c.self.inside.lexicon;
       articles = c.self.inside.articles;
     } in
     let ordered : AreInOrder c.self.inside.articles = c.as_slice.ensures.in_order in
-    let around = spot inside c.self.inside.senses.items c.self.inside.kept c.args.self.now c.self.view_is c.self.invariant.0 ordered c.args.fresh.word
+    let around = spot inside c.self.inside.budget c.self.inside.senses.items c.self.inside.kept c.args.self.now c.self.view_is c.self.invariant.0 ordered
+    c.args.fresh.word
     c.place-place.result c.place-place.ensures c.args.fresh.at c.requires.place in
     let many = around.many in
     let rising = around.within in
@@ -240,7 +244,8 @@ returns-clause-spent c =
     (known_around xs ms c.place-place.result c.args.fresh.at (stated_by (meaning_shown c.args.fresh.sense)) (c.args.fresh.at + 1)) → ⊥)
     c.as_slice-2.result.now c.self.inside.articles c.deref-2.result.now c.self.inside.senses.items c.as_slice-2.ensures.articles c.deref-2.ensures.value
     (c.in_ok-status.ensures.spent red) in
-    spends_outside inside c.self.inside.senses.items c.self.inside.kept c.args.self.now c.self.view_is c.self.invariant.0 ordered c.args.fresh.word
+    spends_outside inside c.self.inside.budget c.self.inside.senses.items c.self.inside.kept c.args.self.now c.self.view_is c.self.invariant.0 ordered
+    c.args.fresh.word
     c.place-place.result c.place-place.ensures c.args.fresh.at (c.args.fresh.at + 1) around c.args.fresh.tokens c.args.fresh.sense c.requires.means put
     (λ st. set_parts around.article.sentences c.args.fresh.at (record { tokens = c.args.fresh.tokens; status = st }) (omega (arith, rising)))
     c.in_ok-status.status stands red

@@ -13,13 +13,13 @@ use Rattle.articles.specs.declared.sentences.Sentence.{Sentence}
 use Rattle.articles.specs.declared.article.Article.{Article}
 use Rattle.articles.specs.Articles.{AreInOrder}
 use Rattle.wiki_parts.specs.declared.meanings.Sense.{Sense}
-use Rattle.wiki_parts.specs.State.{State}
+use Rattle.plain_wiki.specs.State.{Stored}
 use Rattle.wiki_parts.specs.Holding.{Holding}
 use Rattle.wiki_parts.specs.Found.{meaning_shown}
-use Rattle.wiki_parts.specs.Knowledge.{live_names}
+use Rattle.plain_wiki.specs.Knowledge.{live_names}
 use Rattle.wiki_parts.specs.Kept.{stated_by, known_around, Stands}
 use Rattle.wiki_store.specs.Settled.{IsTrueIn}
-use Rattle.wiki_store.specs.Step.{with_replaced}
+use Rattle.plain_wiki.specs.Doing.{with_replaced}
 use Rattle.wiki_store.proofs.AroundLemmas.{set_parts}
 use Rattle.wiki_store.proofs.JoiningLemmas.{settled-states, settled-stands, not-red, keeps-claims}
 use Rattle.wiki_store.proofs.InsideLemmas.{item-is, spot, status_outside, keeps_inside}
@@ -27,14 +27,14 @@ use Rattle.wiki_store.proofs.base.Base.replace_true.Goals as goal
 
 pub join-requires-clause-around : goal.join-requires-clause-around
 join-requires-clause-around c =
-    let inside : State = record {
+    let inside : Stored = record {
       grammar = c.self.inside.grammar;
-      budget = c.self.inside.budget;
       words = c.self.inside.lexicon;
       articles = c.self.inside.articles;
     } in
     let ordered : AreInOrder c.self.inside.articles = c.as_slice.ensures.in_order in
-    let around = spot inside c.self.inside.senses.items c.self.inside.kept c.args.self.now c.self.view_is c.self.invariant.0 ordered c.args.fresh.word
+    let around = spot inside c.self.inside.budget c.self.inside.senses.items c.self.inside.kept c.args.self.now c.self.view_is c.self.invariant.0 ordered
+    c.args.fresh.word
     c.place-place.result c.place-place.ensures c.args.fresh.at c.requires.place in
     let many = around.many in
     let rising = around.within in
@@ -52,9 +52,8 @@ join-requires-clause-model c =
 
 pub invariant_of-self : goal.invariant_of-self
 invariant_of-self c =
-    let inside : State = record {
+    let inside : Stored = record {
       grammar = c.self.inside.grammar;
-      budget = c.self.inside.budget;
       words = c.self.inside.lexicon;
       articles = c.self.inside.articles;
     } in
@@ -62,26 +61,25 @@ invariant_of-self c =
 
 pub returns-in_err-join-clause-memory : goal.returns-in_err-join-clause-memory
 returns-in_err-join-clause-memory c =
-    let inside : State = record {
+    let inside : Stored = record {
       grammar = c.self.inside.grammar;
-      budget = c.self.inside.budget;
       words = c.self.inside.lexicon;
       articles = c.self.inside.articles;
     } in
-    let after : Holding = record { state = inside; interpretation = kept_interp c.join.new.kept } in
+    let after : Holding = record { state = inside; budget = c.self.inside.budget; interpretation = kept_interp c.join.new.kept } in
     OnErr_any {P = after ≡ c.args.self.now} c.from_residual-in_err-join.result
-    (ap (λ (i : Interpretation). record { state = inside; interpretation = i }) c.join.ensures.interp ∙ c.self.view_is)
+    (ap (λ (i : Interpretation). record { state = inside; budget = c.self.inside.budget; interpretation = i }) c.join.ensures.interp ∙ c.self.view_is)
 
 pub index_mut-requires : goal.index_mut-requires
 index_mut-requires c =
-    let inside : State = record {
+    let inside : Stored = record {
       grammar = c.self.inside.grammar;
-      budget = c.self.inside.budget;
       words = c.self.inside.lexicon;
       articles = c.self.inside.articles;
     } in
     let ordered : AreInOrder c.self.inside.articles = c.as_slice.ensures.in_order in
-    let around = spot inside c.self.inside.senses.items c.self.inside.kept c.args.self.now c.self.view_is c.self.invariant.0 ordered c.args.fresh.word
+    let around = spot inside c.self.inside.budget c.self.inside.senses.items c.self.inside.kept c.args.self.now c.self.view_is c.self.invariant.0 ordered
+    c.args.fresh.word
     c.place-place.result c.place-place.ensures c.args.fresh.at c.requires.place in
     let many = around.many in
     let rising = around.within in
@@ -91,14 +89,14 @@ index_mut-requires c =
 
 pub set-requires : goal.set-requires
 set-requires c =
-    let inside : State = record {
+    let inside : Stored = record {
       grammar = c.self.inside.grammar;
-      budget = c.self.inside.budget;
       words = c.self.inside.lexicon;
       articles = c.self.inside.articles;
     } in
     let ordered : AreInOrder c.self.inside.articles = c.as_slice.ensures.in_order in
-    let around = spot inside c.self.inside.senses.items c.self.inside.kept c.args.self.now c.self.view_is c.self.invariant.0 ordered c.args.fresh.word
+    let around = spot inside c.self.inside.budget c.self.inside.senses.items c.self.inside.kept c.args.self.now c.self.view_is c.self.invariant.0 ordered
+    c.args.fresh.word
     c.place-place.result c.place-place.ensures c.args.fresh.at c.requires.place in
     let many = around.many in
     let rising = around.within in
@@ -109,14 +107,14 @@ set-requires c =
 
 pub invariant_of-self-2 : goal.invariant_of-self-2
 invariant_of-self-2 c =
-    let inside : State = record {
+    let inside : Stored = record {
       grammar = c.self.inside.grammar;
-      budget = c.self.inside.budget;
       words = c.self.inside.lexicon;
       articles = c.self.inside.articles;
     } in
     let ordered : AreInOrder c.self.inside.articles = c.as_slice.ensures.in_order in
-    let around = spot inside c.self.inside.senses.items c.self.inside.kept c.args.self.now c.self.view_is c.self.invariant.0 ordered c.args.fresh.word
+    let around = spot inside c.self.inside.budget c.self.inside.senses.items c.self.inside.kept c.args.self.now c.self.view_is c.self.invariant.0 ordered
+    c.args.fresh.word
     c.place-place.result c.place-place.ensures c.args.fresh.at c.requires.place in
     let many = around.many in
     let rising = around.within in
@@ -142,7 +140,8 @@ invariant_of-self-2 c =
     item-is c.self.inside.senses.items c.place-place.result c.index_mut.result.now around.own around.meant c.index_mut.ensures.value in
     let in_own : c.args.fresh.at < length around.own = omega (arith, many, rising) in
     let few = c.self.invariant.0.few in (
-      keeps_inside inside c.self.inside.senses.items c.self.inside.kept c.args.self.now c.self.view_is c.self.invariant.0 ordered c.args.fresh.word
+      keeps_inside inside c.self.inside.budget c.self.inside.senses.items c.self.inside.kept c.args.self.now c.self.view_is c.self.invariant.0 ordered
+          c.args.fresh.word
           c.place-place.result c.place-place.ensures c.args.fresh.at (c.args.fresh.at + 1) around c.args.fresh.tokens c.args.fresh.sense c.requires.means put
           (λ st. set_parts around.article.sentences c.args.fresh.at (record { tokens = c.args.fresh.tokens; status = st }) (omega (arith, rising))) Asserted
           stands c.replace.new.self c.set.new.self c.join.new.kept c.replace.ensures.articles
@@ -153,14 +152,14 @@ invariant_of-self-2 c =
 
 pub returns-clause-status : goal.returns-clause-status
 returns-clause-status c =
-    let inside : State = record {
+    let inside : Stored = record {
       grammar = c.self.inside.grammar;
-      budget = c.self.inside.budget;
       words = c.self.inside.lexicon;
       articles = c.self.inside.articles;
     } in
     let ordered : AreInOrder c.self.inside.articles = c.as_slice.ensures.in_order in
-    let around = spot inside c.self.inside.senses.items c.self.inside.kept c.args.self.now c.self.view_is c.self.invariant.0 ordered c.args.fresh.word
+    let around = spot inside c.self.inside.budget c.self.inside.senses.items c.self.inside.kept c.args.self.now c.self.view_is c.self.invariant.0 ordered
+    c.args.fresh.word
     c.place-place.result c.place-place.ensures c.args.fresh.at c.requires.place in
     let many = around.many in
     let rising = around.within in
@@ -182,16 +181,16 @@ returns-clause-status c =
     (subst (λ (h : Holding). IsTrueIn h.interpretation (meaning_shown c.args.fresh.sense)) (sym c.self.view_is) c.requires.settled)
     (subst (λ (cs : List Claim). IsFiniteModel (kept_interp c.join.new.kept) cs) joined c.in_ok-join.ensures.finite) in
     let put : Status → List Sentence → List Sentence = λ st ss. set ss c.args.fresh.at (record { tokens = c.args.fresh.tokens; status = st }) in
-    status_outside inside c.self.inside.senses.items c.self.inside.kept c.args.self.now c.self.view_is c.self.invariant.0 ordered c.args.fresh.word
+    status_outside inside c.self.inside.budget c.self.inside.senses.items c.self.inside.kept c.args.self.now c.self.view_is c.self.invariant.0 ordered
+    c.args.fresh.word
     c.place-place.result c.place-place.ensures c.args.fresh.at (c.args.fresh.at + 1) around c.args.fresh.tokens c.args.fresh.sense c.requires.means put
     (λ st. set_parts around.article.sentences c.args.fresh.at (record { tokens = c.args.fresh.tokens; status = st }) (omega (arith, rising))) Asserted
     stands
 
 pub returns-clause-after : goal.returns-clause-after
 returns-clause-after c =
-    let inside : State = record {
+    let inside : Stored = record {
       grammar = c.self.inside.grammar;
-      budget = c.self.inside.budget;
       words = c.self.inside.lexicon;
       articles = c.self.inside.articles;
     } in

@@ -14,12 +14,13 @@ use Rattle.articles.specs.declared.sentences.Sentence.{Sentence}
 use Rattle.articles.specs.declared.article.Article.{Article}
 use Rattle.articles.specs.Articles.{AreInOrder, with_status}
 use Rattle.wiki_parts.specs.declared.meanings.Sense.{Sense}
-use Rattle.wiki_parts.specs.State.{State}
+use Rattle.plain_wiki.specs.State.{Stored}
 use Rattle.wiki_parts.specs.Holding.{Holding}
 use Rattle.wiki_parts.specs.Found.{meaning_shown}
-use Rattle.wiki_parts.specs.Knowledge.{live_names, GetStatus}
+use Rattle.wiki_parts.specs.Spending.{IsCutOff}
+use Rattle.plain_wiki.specs.Knowledge.{live_names, GetStatus}
 use Rattle.wiki_parts.specs.Kept.{stated_by, known_around, Stands, IsKeeping}
-use Rattle.wiki_store.specs.Step.{with_marked}
+use Rattle.plain_wiki.specs.Doing.{with_marked}
 use Rattle.wiki_store.proofs.AroundLemmas.{item, parts_at}
 use Rattle.wiki_store.proofs.JudgeLemmas.{marked-spliced}
 use Rattle.wiki_store.proofs.JoiningLemmas.{settled-states, settled-stands, not-red, keeps-claims}
@@ -28,14 +29,14 @@ use Rattle.wiki_store.proofs.base.Base.restate.Goals as goal
 
 pub join-requires-clause-around : goal.join-requires-clause-around
 join-requires-clause-around c =
-    let inside : State = record {
+    let inside : Stored = record {
       grammar = c.self.inside.grammar;
-      budget = c.self.inside.budget;
       words = c.self.inside.lexicon;
       articles = c.self.inside.articles;
     } in
     let ordered : AreInOrder c.self.inside.articles = c.as_slice-articles.ensures.in_order in
-    let around = spot inside c.self.inside.senses.items c.self.inside.kept c.args.self.now c.self.view_is c.self.invariant.0 ordered c.args.word
+    let around = spot inside c.self.inside.budget c.self.inside.senses.items c.self.inside.kept c.args.self.now c.self.view_is c.self.invariant.0 ordered
+    c.args.word
     c.place-place.result c.place-place.ensures c.args.at c.requires.place in
     let many = around.many in
     let rising = around.within in
@@ -52,9 +53,8 @@ join-requires-clause-model c =
 
 pub invariant_of-self : goal.invariant_of-self
 invariant_of-self c =
-    let inside : State = record {
+    let inside : Stored = record {
       grammar = c.self.inside.grammar;
-      budget = c.self.inside.budget;
       words = c.self.inside.lexicon;
       articles = c.self.inside.articles;
     } in
@@ -62,26 +62,25 @@ invariant_of-self c =
 
 pub returns-in_err-join-clause-memory : goal.returns-in_err-join-clause-memory
 returns-in_err-join-clause-memory c =
-    let inside : State = record {
+    let inside : Stored = record {
       grammar = c.self.inside.grammar;
-      budget = c.self.inside.budget;
       words = c.self.inside.lexicon;
       articles = c.self.inside.articles;
     } in
-    let after : Holding = record { state = inside; interpretation = kept_interp c.join.new.kept } in
+    let after : Holding = record { state = inside; budget = c.self.inside.budget; interpretation = kept_interp c.join.new.kept } in
     OnErr_any {P = after ≡ c.args.self.now} c.from_residual-in_err-join.result
-    (ap (λ (i : Interpretation). record { state = inside; interpretation = i }) c.join.ensures.interp ∙ c.self.view_is)
+    (ap (λ (i : Interpretation). record { state = inside; budget = c.self.inside.budget; interpretation = i }) c.join.ensures.interp ∙ c.self.view_is)
 
 pub index-requires : goal.index-requires
 index-requires c =
-    let inside : State = record {
+    let inside : Stored = record {
       grammar = c.self.inside.grammar;
-      budget = c.self.inside.budget;
       words = c.self.inside.lexicon;
       articles = c.self.inside.articles;
     } in
     let ordered : AreInOrder c.self.inside.articles = c.as_slice-articles.ensures.in_order in
-    let around = spot inside c.self.inside.senses.items c.self.inside.kept c.args.self.now c.self.view_is c.self.invariant.0 ordered c.args.word
+    let around = spot inside c.self.inside.budget c.self.inside.senses.items c.self.inside.kept c.args.self.now c.self.view_is c.self.invariant.0 ordered
+    c.args.word
     c.place-place.result c.place-place.ensures c.args.at c.requires.place in
     let many = around.many in
     let rising = around.within in
@@ -90,14 +89,14 @@ index-requires c =
 
 pub get-sense-requires : goal.get-sense-requires
 get-sense-requires c =
-    let inside : State = record {
+    let inside : Stored = record {
       grammar = c.self.inside.grammar;
-      budget = c.self.inside.budget;
       words = c.self.inside.lexicon;
       articles = c.self.inside.articles;
     } in
     let ordered : AreInOrder c.self.inside.articles = c.as_slice-articles.ensures.in_order in
-    let around = spot inside c.self.inside.senses.items c.self.inside.kept c.args.self.now c.self.view_is c.self.invariant.0 ordered c.args.word
+    let around = spot inside c.self.inside.budget c.self.inside.senses.items c.self.inside.kept c.args.self.now c.self.view_is c.self.invariant.0 ordered
+    c.args.word
     c.place-place.result c.place-place.ensures c.args.at c.requires.place in
     let many = around.many in
     let rising = around.within in
@@ -108,14 +107,14 @@ get-sense-requires c =
 
 pub invariant_of-self-2 : goal.invariant_of-self-2
 invariant_of-self-2 c =
-    let inside : State = record {
+    let inside : Stored = record {
       grammar = c.self.inside.grammar;
-      budget = c.self.inside.budget;
       words = c.self.inside.lexicon;
       articles = c.self.inside.articles;
     } in
     let ordered : AreInOrder c.self.inside.articles = c.as_slice-articles.ensures.in_order in
-    let around = spot inside c.self.inside.senses.items c.self.inside.kept c.args.self.now c.self.view_is c.self.invariant.0 ordered c.args.word
+    let around = spot inside c.self.inside.budget c.self.inside.senses.items c.self.inside.kept c.args.self.now c.self.view_is c.self.invariant.0 ordered
+    c.args.word
     c.place-place.result c.place-place.ensures c.args.at c.requires.place in
     let many = around.many in
     let rising = around.within in
@@ -124,7 +123,8 @@ invariant_of-self-2 c =
     let meant : slice_get around.own c.args.at ≡ Some c.get-sense.result.now =
     subst (λ (ms : List Sense). slice_get ms c.args.at ≡ Some c.get-sense.result.now) before c.get-sense.ensures in
     let s = item around.article.sentences c.args.at (omega (arith, rising)) in
-    let means = means_here inside c.self.inside.senses.items c.self.inside.kept c.args.self.now c.self.view_is c.self.invariant.0 ordered c.args.word
+    let means = means_here inside c.self.inside.budget c.self.inside.senses.items c.self.inside.kept c.args.self.now c.self.view_is c.self.invariant.0 ordered
+    c.args.word
     c.place-place.result c.place-place.ensures c.args.at around s.0 c.get-sense.result.now s.1 meant in
     let joined : kept_claims c.join.new.kept
     ≡ known_around c.self.inside.articles c.self.inside.senses.items c.place-place.result c.args.at (stated_by (meaning_shown c.get-sense.result.now))
@@ -146,25 +146,27 @@ invariant_of-self-2 c =
     let few = c.self.invariant.0.few in (
       subst (λ (ms : List (List Sense)). IsKeeping (record inside { articles = c.mark.new.self }) ms c.join.new.kept)
           (set-same c.self.inside.senses.items c.place-place.result around.own around.meant)
-          (keeps_inside inside c.self.inside.senses.items c.self.inside.kept c.args.self.now c.self.view_is c.self.invariant.0 ordered c.args.word
+          (keeps_inside inside c.self.inside.budget c.self.inside.senses.items c.self.inside.kept c.args.self.now c.self.view_is c.self.invariant.0 ordered
+          c.args.word
           c.place-place.result c.place-place.ensures c.args.at (c.args.at + 1) around s.0.tokens c.get-sense.result.now means put
           (λ st. marked-spliced around.article.sentences c.args.at s.0 st s.1) Asserted stands c.mark.new.self around.own c.join.new.kept c.mark.ensures
           (parts_at around.own c.args.at c.get-sense.result.now meant)
-          (short_here inside c.self.inside.senses.items c.self.inside.kept c.args.self.now c.self.view_is c.self.invariant.0 ordered c.args.word
+          (short_here inside c.self.inside.budget c.self.inside.senses.items c.self.inside.kept c.args.self.now c.self.view_is c.self.invariant.0 ordered
+          c.args.word
           c.place-place.result c.place-place.ensures c.args.at around s.0 s.1) (omega (arith, few)) joined),
       c.self.invariant.1,
     )
 
 pub returns-clause-status : goal.returns-clause-status
 returns-clause-status c =
-    let inside : State = record {
+    let inside : Stored = record {
       grammar = c.self.inside.grammar;
-      budget = c.self.inside.budget;
       words = c.self.inside.lexicon;
       articles = c.self.inside.articles;
     } in
     let ordered : AreInOrder c.self.inside.articles = c.as_slice-articles.ensures.in_order in
-    let around = spot inside c.self.inside.senses.items c.self.inside.kept c.args.self.now c.self.view_is c.self.invariant.0 ordered c.args.word
+    let around = spot inside c.self.inside.budget c.self.inside.senses.items c.self.inside.kept c.args.self.now c.self.view_is c.self.invariant.0 ordered
+    c.args.word
     c.place-place.result c.place-place.ensures c.args.at c.requires.place in
     let many = around.many in
     let rising = around.within in
@@ -173,7 +175,8 @@ returns-clause-status c =
     let meant : slice_get around.own c.args.at ≡ Some c.get-sense.result.now =
     subst (λ (ms : List Sense). slice_get ms c.args.at ≡ Some c.get-sense.result.now) before c.get-sense.ensures in
     let s = item around.article.sentences c.args.at (omega (arith, rising)) in
-    let means = means_here inside c.self.inside.senses.items c.self.inside.kept c.args.self.now c.self.view_is c.self.invariant.0 ordered c.args.word
+    let means = means_here inside c.self.inside.budget c.self.inside.senses.items c.self.inside.kept c.args.self.now c.self.view_is c.self.invariant.0 ordered
+    c.args.word
     c.place-place.result c.place-place.ensures c.args.at around s.0 c.get-sense.result.now s.1 meant in
     let joined : kept_claims c.join.new.kept
     ≡ known_around c.self.inside.articles c.self.inside.senses.items c.place-place.result c.args.at (stated_by (meaning_shown c.get-sense.result.now))
@@ -193,24 +196,25 @@ returns-clause-status c =
     (subst (λ (cs : List Claim). IsFiniteModel (kept_interp c.join.new.kept) cs) joined c.in_ok-join.ensures.finite) in
     let put : Status → List Sentence → List Sentence = λ st ss. with_status ss c.args.at st in
     λ sentence at_is.
-    subst (λ (t : Sentence). GetStatus (with_marked c.args.self.now.state c.args.word c.args.at Asserted) t.tokens Asserted)
+    subst (λ (t : Sentence). GetStatus (IsCutOff c.args.self.now.budget) (with_marked c.args.self.now.state c.args.word c.args.at Asserted) t.tokens Asserted)
     (ap (λ (o : Option Sentence). unwrap_or o s.0)
-    (sym (sentence_here inside c.self.inside.senses.items c.self.inside.kept c.args.self.now c.self.view_is c.self.invariant.0 ordered c.args.word
+    (sym (sentence_here inside c.self.inside.budget c.self.inside.senses.items c.self.inside.kept c.args.self.now c.self.view_is c.self.invariant.0 ordered
+    c.args.word
     c.place-place.result c.place-place.ensures c.args.at around s.0 s.1) ∙ at_is))
     (record {
       meaning = meaning_shown c.get-sense.result.now;
       means = means;
       fits =
-          status_outside inside c.self.inside.senses.items c.self.inside.kept c.args.self.now c.self.view_is c.self.invariant.0 ordered c.args.word
+          status_outside inside c.self.inside.budget c.self.inside.senses.items c.self.inside.kept c.args.self.now c.self.view_is c.self.invariant.0 ordered
+          c.args.word
           c.place-place.result c.place-place.ensures c.args.at (c.args.at + 1) around s.0.tokens c.get-sense.result.now means put
           (λ st. marked-spliced around.article.sentences c.args.at s.0 st s.1) Asserted stands;
     })
 
 pub returns-clause-after : goal.returns-clause-after
 returns-clause-after c =
-    let inside : State = record {
+    let inside : Stored = record {
       grammar = c.self.inside.grammar;
-      budget = c.self.inside.budget;
       words = c.self.inside.lexicon;
       articles = c.self.inside.articles;
     } in

@@ -3,14 +3,16 @@ use Rattle.std.proofs.lemmas.Result.{err_from_is_err_and}
 use Rattle.codeco_terms.specs.GrammarParts.{GrammarParts}
 use Rattle.lexicon.specs.Words.{Listed, forms_of, with_forms, others, forms_refusal}
 use Rattle.wiki_talk.specs.declared.requests.Request.TheVariants as requests
+use Rattle.wiki_talk.specs.declared.requests.WordRequest.TheVariants as of_word
 use Rattle.wiki_parts.specs.Faults.{IsCause, IsFault}
 use Rattle.wiki_parts.specs.Holding.{Holding}
-use Rattle.wiki_parts.specs.Places.{word_named, all_placed}
-use Rattle.wiki_parts.specs.Refusing.{KeepsMeaning, reword_cause}
-use Rattle.wiki_parts.specs.State.{IsSound}
-use Rattle.wiki_parts.specs.Words.{forms_given}
-use Rattle.wiki_store.specs.Rewording.{KeepsOthers, TellsBroken}
-use Rattle.wiki_store.specs.Step.{Refuses}
+use Rattle.plain_wiki.specs.Places.{word_named, all_placed}
+use Rattle.plain_wiki.specs.Causes.{KeepsMeaning, reword_cause}
+use Rattle.wiki_parts.specs.Sound.{IsSound}
+use Rattle.plain_wiki.specs.Words.{forms_given}
+use Rattle.plain_wiki.specs.Causes.{breaks_sentence}
+use Rattle.wiki_store.specs.Rewording.{KeepsOthers}
+use Rattle.plain_wiki.specs.Against.{Refuses}
 use Rattle.wiki_store.proofs.RewordLemmas.{keeps_others, keeps_sentences, reword_free, bad_reword, broken_told, cause_fault, fault_told}
 use Rattle.wiki_store.proofs.base.Base.rewording.Goals as goal
 
@@ -26,7 +28,7 @@ returns-in_err-reword_word-clause-refused c =
     c.in_err-reword_word.ensures.refused in
     let p = err_from_is_err_and c.from_residual-in_err-reword_word.result c.from_residual-in_err-reword_word.ensures.1 in
     rw (p.1, p.2)
-    (cause_fault (reword_cause state.words word old.kind c.args.texts.now) (Refuses state (requests.Reword c.args.form.now c.args.texts.now))
+    (cause_fault (reword_cause state.words word old.kind c.args.texts.now) (Refuses state (requests.OnWord c.args.form.now (of_word.Reword c.args.texts.now)))
     c.in_err-reword_word.field-0.0 cause
     (bad_reword state c.args.form.now c.args.texts.now word old named of_word))
 
@@ -65,9 +67,11 @@ returns-in_err-unbroken-clause-refused c =
     subst (λ (ws : Listed). reword_cause ws word old.kind c.args.texts.now ≡ None) same c.in_ok-reword_word.ensures.accepted in
     let p = err_from_is_err_and c.from_residual-in_err-unbroken.result c.from_residual-in_err-unbroken.ensures.1 in
     rw (p.1, p.2)
-    (fault_told (TellsBroken state state.grammar c.reword_word.new.lexicon) (Refuses state (requests.Reword c.args.form.now c.args.texts.now))
+    (fault_told (breaks_sentence state state.grammar c.reword_word.new.lexicon)
+        (Refuses state (requests.OnWord c.args.form.now (of_word.Reword c.args.texts.now)))
     c.in_err-unbroken.field-0.0
-    (subst (λ (g : GrammarParts). IsFault (TellsBroken state g c.reword_word.new.lexicon) c.in_err-unbroken.field-0.0) kept c.in_err-unbroken.ensures.refused)
+    (subst (λ (g : GrammarParts). IsFault (breaks_sentence state g c.reword_word.new.lexicon) c.in_err-unbroken.field-0.0) kept
+        c.in_err-unbroken.ensures.refused)
     (broken_told state c.args.form.now c.args.texts.now word old named of_word c.reword_word.new.lexicon is none))
 
 pub returns-clause-step : goal.returns-clause-step

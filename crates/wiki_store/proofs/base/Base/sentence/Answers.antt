@@ -1,15 +1,14 @@
 use Rattle.std.proofs.Common.{◌≡◌, Some, sym, subst}
-use Rattle.wiki_parts.specs.State.{State}
-use Rattle.wiki_parts.specs.Places.{article_named}
+use Rattle.plain_wiki.specs.State.{Stored}
+use Rattle.plain_wiki.specs.Places.{article_named}
 use Rattle.wiki_parts.specs.Holding.{Holding, IsStored}
 use Rattle.wiki_store.proofs.KeepingLemmas.{stored_there}
 use Rattle.wiki_store.proofs.base.Base.sentence.Goals as goal
 
 pub returns-clause-stored : goal.returns-clause-stored
 returns-clause-stored c =
-    let inside : State = record {
+    let inside : Stored = record {
       grammar = c.self.inside.grammar;
-      budget = c.self.inside.budget;
       words = c.self.inside.lexicon;
       articles = c.self.inside.articles;
     } in

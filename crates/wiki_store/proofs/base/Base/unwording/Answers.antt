@@ -3,8 +3,8 @@ use Rattle.wiki_base.specs.declared.numbers.Place.{Place}
 use Rattle.lexicon.specs.Words.{Listed, forms_of, without_word}
 use Rattle.wiki_talk.specs.declared.refusals.Refusal.TheVariants.{InUse}
 use Rattle.wiki_parts.specs.Holding.{Holding}
-use Rattle.wiki_parts.specs.Refusing.{uses_word, TellsPlace}
-use Rattle.wiki_parts.specs.State.{IsSound}
+use Rattle.plain_wiki.specs.Causes.{uses_word, at_place}
+use Rattle.wiki_parts.specs.Sound.{IsSound}
 use Rattle.wiki_store.proofs.UnwordLemmas.{some_of, word-lives, told-found, none-found, unword-refuses, removed-there}
 use Rattle.wiki_store.proofs.base.Base.unwording.Goals as goal
 
@@ -24,7 +24,7 @@ returns-in_ok-in_use-in-Some-clause-refused c =
     let forms = some_of (forms_of state.words.live word) c.in_ok-word.ensures.lives in
     let told = told-found _ c.in-Some.place (sym (c.use_of.ensures forms.0 forms.1) ∙ c.in-Some.is) in
     let refusal = c.in_ok-in_use-in-Some.field-0 in
-    let place = subst (λ (p : Place). TellsPlace state (λ form place. InUse form place) p.article p.at refusal) (sym told.told)
+    let place = subst (λ (p : Place). at_place state (λ form place. InUse form place) p.article p.at refusal) (sym told.told)
     c.in_ok-in_use-in-Some.ensures in
     unword-refuses state c.args.form.now word forms.0 c.in_ok-word.ensures.ok forms.1 told.found told.is refusal place
 

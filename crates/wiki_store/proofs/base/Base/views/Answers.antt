@@ -4,7 +4,7 @@ use Rattle.std.proofs.lemmas.List.{length-map}
 use Rattle.wiki_talk.specs.declared.replies.SentenceView.{SentenceView}
 use Rattle.wiki_parts.specs.Found.{meaning_shown}
 use Rattle.wiki_parts.specs.Kept.{meanings_in}
-use Rattle.wiki_parts.specs.Telling.{TellsSentence}
+use Rattle.plain_wiki.specs.Telling.{TellsSentence}
 use Rattle.wiki_store.specs.Spending.{KeptHasUnknown}
 use Rattle.wiki_store.proofs.KeepingLemmas.{as_many}
 use Rattle.wiki_store.proofs.ReadLemmas.{meant-at, told-more}

@@ -2,7 +2,7 @@ use Rattle.std.proofs.Common.{take}
 use Rattle.std.specs.Prelude.{All, IfSome}
 use Rattle.std.specs.List.{AllZip}
 use Rattle.consequences.specs.Known.{theory_in}
-use Rattle.wiki_parts.specs.Telling.{TellsSentence}
+use Rattle.plain_wiki.specs.Telling.{TellsSentence}
 use Rattle.wiki_store.specs.Remembered.{IsRemembered}
 use Rattle.wiki_store.specs.Settled.{AbsorbsKnown}
 use Rattle.wiki_store.specs.Spending.{KeptHasUnknown}

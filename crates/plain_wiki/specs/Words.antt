@@ -14,17 +14,13 @@ use Rattle.lexicon.specs.declared.suggest.FormFault.{FormFault}
 use Rattle.lexicon.specs.declared.suggest.FormFault.TheVariants as form_faults
 use Rattle.lexicon.specs.Kinds.{canonical_place}
 use Rattle.lexicon.specs.Suggest.{form_texts, form_fault, told}
-use Rattle.lexicon.specs.Words.{Listed, owner, forms_of, add_refusal}
+use Rattle.lexicon.specs.Words.{Listed, forms_of, add_refusal}
 use Rattle.wiki_talk.specs.declared.limits.Limit.{Limit}
 use Rattle.wiki_talk.specs.declared.limits.Limit.TheVariants as limits
 use Rattle.wiki_talk.specs.declared.refusals.Refusal.{Refusal}
 use Rattle.wiki_talk.specs.declared.refusals.Refusal.TheVariants.{BadForm, Taken, Reserved, Full}
 use Rattle.wiki_talk.specs.declared.replies.WordView.{WordView}
 use Rattle.wiki_talk.specs.Limits.{amount_of}
-
--- the forms of the live word that has the text as a form
-abbrev pub word_with : Listed → List ℕ → Option Forms
-word_with words text = option_and_then (forms_of words.live) (owner words.live text)
 
 -- the form that names the word: the text, the singular or the infinitive
 abbrev pub canonical : Forms → List ℕ

@@ -2,7 +2,7 @@
 use Rattle.std.specs.Prelude.{◌≡◌}
 use Rattle.wiki_talk.specs.declared.replies.Reply.{Reply}
 use Rattle.wiki_talk.specs.declared.replies.Reply.TheVariants as replies
-use Rattle.wiki_parts.specs.Holding.{Holding}
+use Rattle.wiki_core.specs.Holding.{Holding}
 
 -- the kept interpretation stays, unless the reply is that of a done `add`, `edit`, `reassert` or `commit`
 abbrev pub KeepsInterpretation : Holding → Reply → Holding → Type 0

@@ -12,9 +12,9 @@ use Rattle.wiki_talk.specs.declared.replies.Meant.TheVariants.{Axioms, Class, Ou
 use Rattle.wiki_talk.specs.declared.replies.SentenceView.{SentenceView}
 use Rattle.wiki_talk.specs.Statuses.{is_question}
 use Rattle.articles.specs.declared.sentences.Sentence.{Sentence}
-use Rattle.wiki_parts.specs.State.{State}
-use Rattle.wiki_parts.specs.Meanings.{Meaning, stating, outside, asking, asking_outside, Means}
-use Rattle.wiki_parts.specs.Knowledge.{Knows, live_names, Answer}
+use Rattle.plain_wiki.specs.State.{Stored}
+use Rattle.plain_wiki.specs.Meanings.{Meaning, stating, outside, asking, asking_outside, Means}
+use Rattle.plain_wiki.specs.Knowledge.{Knows, live_names, Spending, Answer}
 
 -- the canonical forms of words
 abbrev pub spelled : Listed → List WordId → List (List ℕ)
@@ -28,27 +28,27 @@ told_meaning words (asking concept) = Class (class_text (canonical_form_of words
 told_meaning words (asking_outside cause) = Outside cause
 
 -- the names that answer the question that the tokens are, and those of which that isn't known
-pub record AreAnswersTo (state : State) (tokens answers unknown : List (List ℕ)) : Type 0 where
+pub record AreAnswersTo (IsSpent : Spending) (stored : Stored) (tokens answers unknown : List (List ℕ)) : Type 0 where
   pub concept : Concept
-  pub means : Means state.grammar state.words tokens (asking concept)
+  pub means : Means stored.grammar stored.words tokens (asking concept)
   pub claims : List Claim
-  pub known : Knows state claims
+  pub known : Knows stored claims
   pub yes : List WordId
   pub doubtful : List WordId
-  pub answer : Answer claims (live_names state.words) state.budget concept yes doubtful
-  pub answers_told : answers ≡ spelled state.words yes
-  pub unknown_told : unknown ≡ spelled state.words doubtful
+  pub answer : Answer claims (live_names stored.words) IsSpent concept yes doubtful
+  pub answers_told : answers ≡ spelled stored.words yes
+  pub unknown_told : unknown ≡ spelled stored.words doubtful
 
 -- no names are told
 abbrev pub TellsNoName : SentenceView → Type 0
 TellsNoName view = (view.answers ≡ []) × (view.unknown ≡ [])
 
 -- a sentence as it is told: its status, its text, and, of a question for a class, its answers as of now
-pub record TellsSentence (state : State) (sentence : Sentence) (view : SentenceView) : Type 0 where
+pub record TellsSentence (IsSpent : Spending) (stored : Stored) (sentence : Sentence) (view : SentenceView) : Type 0 where
   pub status : view.status ≡ sentence.status
-  pub text : view.text ≡ shown state.grammar.terminals sentence.tokens
-  pub names : MatchBool (is_question sentence.status) (AreAnswersTo state sentence.tokens view.answers view.unknown) (TellsNoName view)
+  pub text : view.text ≡ shown stored.grammar.terminals sentence.tokens
+  pub names : MatchBool (is_question sentence.status) (AreAnswersTo IsSpent stored sentence.tokens view.answers view.unknown) (TellsNoName view)
 
 -- sentences as they are told, one after another
-abbrev pub TellsSentences : State → List Sentence → List SentenceView → Type 0
-TellsSentences state sentences views = AllZip (TellsSentence state) sentences views
+abbrev pub TellsSentences : Spending → Stored → List Sentence → List SentenceView → Type 0
+TellsSentences IsSpent stored sentences views = AllZip (TellsSentence IsSpent stored) sentences views

@@ -1,25 +1,34 @@
--- The articles and sentences that texts and places name, and the first of the sentences with a property.
-use Rattle.std.specs.Prelude.{◌≡◌, ℕ, ◌+◌, List, [], ◌∷◌, take, slice_get, All, Option, Some, option_and_then}
+-- What texts, numbers and places name, and the first of the sentences with a property.
+use Rattle.std.specs.Prelude.{◌≡◌, ℕ, ◌+◌, List, [], ◌∷◌, take, find, slice_get, All, Option, Some, option_map, option_and_then}
 use Rattle.std.specs.List.{flat_map}
 use Rattle.wiki_base.specs.declared.numbers.WordId.{WordId}
+use Rattle.wiki_base.specs.declared.numbers.SessionId.{SessionId}
 use Rattle.wiki_base.specs.declared.numbers.Place.{Place}
-use Rattle.lexicon.specs.Words.{owner}
+use Rattle.lexicon.specs.declared.words.Word.{Word}
+use Rattle.lexicon.specs.Words.{has_form}
 use Rattle.articles.specs.declared.sentences.Sentence.{Sentence}
 use Rattle.articles.specs.declared.article.Article.{Article}
-use Rattle.articles.specs.Articles.{article_of, sentence_at}
-use Rattle.wiki_parts.specs.State.{State}
+use Rattle.articles.specs.Articles.{article_of}
+use Rattle.plain_wiki.specs.Sessions.{PlainSession, session_of}
+use Rattle.plain_wiki.specs.State.{Stored, State}
 
--- the live word that has the form
-abbrev pub word_named : State → List ℕ → Option WordId
-word_named state text = owner state.words.live text
+-- the live word that has the form, and its number
+abbrev pub word_with : Stored → List ℕ → Option Word
+word_with stored form = find (has_form form) stored.words.live
+
+abbrev pub word_named : Stored → List ℕ → Option WordId
+word_named stored form = option_map (λ word. word.id) (word_with stored form)
 
 -- the article of the live word that has the form
-abbrev pub article_named : State → List ℕ → Option Article
-article_named state text = option_and_then (article_of state.articles) (word_named state text)
+abbrev pub article_named : Stored → List ℕ → Option Article
+article_named stored form = option_and_then (article_of stored.articles) (word_named stored form)
 
--- the sentence at a place of that article
-abbrev pub sentence_named : State → List ℕ → ℕ → Option Sentence
-sentence_named state text place = option_and_then (λ word. sentence_at state.articles word place) (word_named state text)
+-- the number as that of a session, and the session that has it
+abbrev pub numbered : ℕ → SessionId
+numbered number = record { 0 = number }
+
+abbrev pub session_numbered : State → ℕ → Option PlainSession
+session_numbered state number = session_of state.sessions (numbered number)
 
 -- a sentence, the word of its article, and its place in it
 pub record Placed : Type 0 where

@@ -1,7 +1,7 @@
 // Classes as numbers: equal classes have one number.
 use logic_terms::{Class, Classes, Knowledge, Role};
 use std::alloc::Global;
-use std::collections::{BTreeMap, BTreeSet};
+use std::collections::BTreeMap;
 use tableau_rules::node_of;
 use wiki_base::{Memory, WordId};
 
@@ -203,56 +203,6 @@ impl Concepts {
         for entry in k.unfoldings() {
             let _ = self.numbered(Form::Named(entry.0.0))?;
             let _ = self.number_of(&entry.1)?;
-        }
-        Ok(())
-    }
-
-    // The names of values in the classes of a part of knowledge.
-    pub(crate) fn values(&mut self, part: &Knowledge) -> Result<BTreeSet<u32>, Memory> {
-        let mut waiting = Vec::new(self.alloc);
-        for class in part.general().as_slice() {
-            waiting.push(self.number_of(class)?)?;
-        }
-        for entry in part.unfoldings() {
-            waiting.push(self.number_of(&entry.1)?)?;
-        }
-        for entry in part.assertions() {
-            waiting.push(self.number_of(&entry.1)?)?;
-        }
-        let mut names = BTreeSet::new(self.alloc);
-        let mut seen = BTreeSet::new(self.alloc);
-        for _ in 0..usize::MAX {
-            let Some(number) = waiting.pop() else {
-                return Ok(names);
-            };
-            if seen.insert(number)? {
-                self.note_parts(number, &mut waiting, &mut names)?;
-            }
-        }
-        Ok(names)
-    }
-
-    // Notes the parts of a class, or the name of a value.
-    fn note_parts(
-        &self,
-        number: u64,
-        waiting: &mut Vec<u64>,
-        names: &mut BTreeSet<u32>,
-    ) -> Result<(), Memory> {
-        match self.form(number) {
-            Form::Not(inner) => waiting.push(inner)?,
-            Form::Some(_, _, inner) => waiting.push(inner)?,
-            Form::All(_, _, inner) => waiting.push(inner)?,
-            Form::Value(_, _, name) => {
-                let _ = names.insert(name)?;
-            }
-            _ => {
-                for place in 0..self.part_count(number) {
-                    if let Some(part) = self.part(number, place) {
-                        waiting.push(part)?;
-                    }
-                }
-            }
         }
         Ok(())
     }

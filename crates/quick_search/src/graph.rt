@@ -1,5 +1,6 @@
 // The branch of the quick search, by numbers, with what is needed to go back and with an agenda of steps that may apply.
 use crate::concepts::{Concepts, Form};
+use crate::roles::{Roles, Way};
 use logic_terms::{Knowledge, Role};
 use std::alloc::Global;
 use std::collections::{BTreeMap, BTreeSet};
@@ -50,7 +51,7 @@ pub(crate) struct Spot {
 #[derive(Clone, Copy, Debug, PartialEq, Eq)]
 pub(crate) struct Link {
     pub(crate) from: u64,
-    pub(crate) role: Role,
+    pub(crate) way: Way,
     pub(crate) to: u64,
     pub(crate) maker: u64,
 }
@@ -69,6 +70,7 @@ enum Change {
 pub(crate) struct Graph {
     pub(crate) alloc: Global,
     pub(crate) concepts: Concepts,
+    pub(crate) roles: Roles,
     pub(crate) general: Vec<u64>,
     pub(crate) roots: u64,
     pub(crate) nodes: Vec<Spot>,
@@ -76,12 +78,20 @@ pub(crate) struct Graph {
     places: BTreeMap<(u64, u64), u64>,
     agenda: BTreeSet<Candidate>,
     trail: Vec<Change>,
-    // How often a class at a node was part of what closed a branch.
+    // How often a class at a node was part of what closed a branch, of late above all, and what the next time counts for.
     weights: BTreeMap<(u64, u64), u64>,
+    gain: u64,
 }
 
 // How many unions are compared at most before one is split.
 const MOST_COMPARED: usize = 256;
+
+// What the first closed branch counts for in weights, from when on all count for less, and by how much less.
+const FIRST_GAIN: u64 = 1 << 10;
+
+const MOST_GAIN: u64 = 1 << 30;
+
+const SHRINKAGE: u64 = 1 << 20;
 
 // A number of its own for each class, as far as it goes.
 fn spread(concept: u64) -> u64 {
@@ -91,10 +101,11 @@ fn spread(concept: u64) -> u64 {
 
 impl Graph {
     // A branch without nodes.
-    fn empty(alloc: Global, k: &Knowledge) -> Graph {
-        Graph {
+    fn empty(alloc: Global, k: &Knowledge) -> Result<Graph, Memory> {
+        Ok(Graph {
             alloc,
             concepts: Concepts::new(alloc),
+            roles: Roles::new(alloc, k)?,
             general: Vec::new(alloc),
             roots: root_count(k),
             nodes: Vec::new(alloc),
@@ -103,12 +114,13 @@ impl Graph {
             agenda: BTreeSet::new(alloc),
             trail: Vec::new(alloc),
             weights: BTreeMap::new(alloc),
-        }
+            gain: FIRST_GAIN,
+        })
     }
 
     // The first branch.
     pub(crate) fn begun(alloc: Global, k: &Knowledge, first: &Branch) -> Result<Graph, Memory> {
-        let mut graph = Graph::empty(alloc, k);
+        let mut graph = Graph::empty(alloc, k)?;
         let labels = graph.numbered(k, first)?;
         graph.concepts.unfold(k)?;
         graph.concepts.complete(k)?;
@@ -116,29 +128,45 @@ impl Graph {
         Ok(graph)
     }
 
-    // The first branch of a part of knowledge, with the numbers that classes have in the whole. Names that the part doesn't speak of
-    // have empty labels.
+    // The first branch of a part of knowledge, with the numbers that classes have in the whole. Only the elements of these names have
+    // to be in what each element is in.
     pub(crate) fn within(
         alloc: Global,
         k: &Knowledge,
         part: &Knowledge,
+        names: &[WordId],
         first: &Branch,
     ) -> Result<Graph, Memory> {
-        let mut graph = Graph::empty(alloc, k);
+        let mut graph = Graph::empty(alloc, k)?;
         let _ = graph.numbered(k, first)?;
         graph.general.clear();
         let beginning = start(alloc, part)?;
         let all = graph.numbered(part, &beginning)?;
         graph.concepts.unfold(part)?;
-        let named = graph.named(part)?;
         graph.concepts.complete(k)?;
+        let mut filled = BTreeSet::new(alloc);
+        for name in names {
+            if let Some(node) = node_of(part, *name) {
+                let _ = filled.insert(node)?;
+            }
+        }
         let mut labels = Vec::new(alloc);
-        for (node, label) in all.into_iter().enumerate() {
-            let is_named = named.contains(&(node as u64)) || (named.is_empty() && node == 0);
-            labels.push(if is_named { label } else { Vec::new(alloc) })?;
+        for (node, label) in all.iter().enumerate() {
+            labels.push(graph.label_of(label.as_slice(), filled.contains(&(node as u64)))?)?;
         }
         graph.begin(labels.as_slice(), &beginning)?;
         Ok(graph)
+    }
+
+    // The classes of a label, without those that each element is in where it is not to have them.
+    fn label_of(&self, label: &[u64], is_filled: bool) -> Result<Vec<u64>, Memory> {
+        let mut left = Vec::new(self.alloc);
+        for concept in label {
+            if is_filled || !self.general.contains(concept) {
+                left.push(*concept)?;
+            }
+        }
+        Ok(left)
     }
 
     // Makes the nodes and edges of a branch, with these labels.
@@ -152,9 +180,10 @@ impl Graph {
             }
         }
         for edge in first.edges() {
+            let way = self.roles.way(edge.role);
             self.add_edge(Link {
                 from: edge.from,
-                role: edge.role,
+                way,
                 to: edge.to,
                 maker: 0,
             })?;
@@ -180,25 +209,6 @@ impl Graph {
         }
         self.concepts.number_all(k)?;
         Ok(labels)
-    }
-
-    // The nodes of names of which a part of knowledge says something.
-    fn named(&mut self, part: &Knowledge) -> Result<BTreeSet<u64>, Memory> {
-        let mut names = self.concepts.values(part)?;
-        for entry in part.assertions() {
-            let _ = names.insert(entry.0.0)?;
-        }
-        for edge in part.edges() {
-            let _ = names.insert(edge.1.0)?;
-            let _ = names.insert(edge.2.0)?;
-        }
-        let mut nodes = BTreeSet::new(self.alloc);
-        for name in names.iter() {
-            if let Some(node) = node_of(part, WordId(*name)) {
-                let _ = nodes.insert(node)?;
-            }
-        }
-        Ok(nodes)
     }
 
     pub(crate) fn label_len(&self, node: u64) -> u64 {
@@ -377,12 +387,8 @@ impl Graph {
     }
 
     // Takes, in place of a union's step, that of the union which leaves the fewest choices for its weight.
-    pub(crate) fn pop_tightest(
-        &mut self,
-        k: &Knowledge,
-        first: Candidate,
-    ) -> Result<Candidate, Memory> {
-        let best = self.tightest(k, first);
+    pub(crate) fn pop_tightest(&mut self, first: Candidate) -> Result<Candidate, Memory> {
+        let best = self.tightest(first);
         if best != first {
             if self.agenda.remove(&best) {
                 self.trail.push(Change::Took(best))?;
@@ -392,15 +398,15 @@ impl Graph {
         Ok(best)
     }
 
-    fn tightest(&self, k: &Knowledge, first: Candidate) -> Candidate {
+    fn tightest(&self, first: Candidate) -> Candidate {
         let mut best = first;
         let mut seen: usize = 0;
         for candidate in self.agenda.iter() {
-            if candidate.rank != Rank::Or || seen >= MOST_COMPARED {
+            if seen >= MOST_COMPARED {
                 return best;
             }
             seen = seen.saturating_add(1);
-            if self.is_tighter(*candidate, best) && self.site(k, *candidate).is_some() {
+            if self.is_tighter(*candidate, best) && self.site(*candidate).is_some() {
                 best = *candidate;
             }
         }
@@ -417,9 +423,15 @@ impl Graph {
     fn tightness(&self, candidate: Candidate) -> (u64, u64) {
         match self.class(candidate.node, candidate.place) {
             Some(concept) => {
-                let weight = self.weights.get(&(candidate.node, concept)).copied();
-                let open = self.open_count(candidate.node, concept);
-                (open, weight.unwrap_or(0).saturating_add(1))
+                let weight = self
+                    .weights
+                    .get(&self.whose(candidate.node, concept))
+                    .copied();
+                let open = match candidate.rank {
+                    Rank::Some => 2,
+                    _ => self.open_count(candidate.node, concept),
+                };
+                (open, weight.unwrap_or(0).saturating_add(FIRST_GAIN))
             }
             None => (0, 1),
         }
@@ -427,11 +439,24 @@ impl Graph {
 
     // A class at a node was part of what closed a branch.
     pub(crate) fn weigh(&mut self, node: u64, concept: u64) -> Result<(), Memory> {
-        let weight = self.weights.get(&(node, concept)).copied().unwrap_or(0);
+        let whose = self.whose(node, concept);
+        let weight = self.weights.get(&whose).copied().unwrap_or(0);
         let _ = self
             .weights
-            .insert((node, concept), weight.saturating_add(1))?;
+            .insert(whose, weight.saturating_add(self.gain))?;
+        self.gain = self.gain.saturating_add(self.gain / 128);
+        if self.gain > MOST_GAIN {
+            self.gain /= SHRINKAGE;
+            for entry in self.weights.iter_mut() {
+                *entry.1 /= SHRINKAGE;
+            }
+        }
         Ok(())
+    }
+
+    // What a weight is kept for: nodes without a name are one.
+    fn whose(&self, node: u64, concept: u64) -> (u64, u64) {
+        (node.min(self.roots), concept)
     }
 
     pub(crate) fn waiting(&self) -> usize {

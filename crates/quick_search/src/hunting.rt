@@ -7,7 +7,7 @@ use logic_terms::Knowledge;
 use std::alloc::Global;
 use std::collections::BTreeSet;
 use tableau_rules::{Branch, Clash, Closed, Rule, Step, clash};
-use wiki_base::Memory;
+use wiki_base::{Memory, WordId};
 
 /// What a quick search proposes.
 #[derive(Drop)]
@@ -91,11 +91,11 @@ pub fn hunt(
         path: Vec::new(alloc),
         leaps,
     };
-    match search.run(k, None, budget)? {
+    match search.run(None, budget)? {
         Turn::Open => Ok(Proposal::Steps(search.steps()?)),
         Turn::Shut(proof) => {
             search.graph.undo(0)?;
-            match write(&mut search.graph, k, &proof)? {
+            match write(&mut search.graph, &proof)? {
                 Some(tree) => Ok(Proposal::Tree(tree)),
                 None => Ok(Proposal::Nothing),
             }
@@ -105,11 +105,13 @@ pub fn hunt(
 }
 
 /// Searches for a closed tree of knowledge by a part of it alone, which has the same names and roles, with at most `budget` rule
-/// applications. `first` is the first branch of the whole. It leaps, as `hunt` does.
+/// applications. Of what each element is in no more is taken than that the elements of these names are in it. `first` is the first
+/// branch of the whole. It leaps, as `hunt` does.
 pub fn hunt_within(
     alloc: Global,
     k: &Knowledge,
     part: &Knowledge,
+    names: &[WordId],
     first: &Branch,
     budget: u64,
 ) -> Result<Option<Closed>, Memory> {
@@ -117,15 +119,15 @@ pub fn hunt_within(
         return Ok(Some(Closed::Clash(found)));
     }
     let mut search = Search {
-        graph: Graph::within(alloc, k, part, first)?,
+        graph: Graph::within(alloc, k, part, names, first)?,
         path: Vec::new(alloc),
         leaps: true,
     };
-    let found = search.clash_at_first(k)?;
-    match search.run(k, found, budget)? {
+    let found = search.clash_at_first()?;
+    match search.run(found, budget)? {
         Turn::Shut(proof) => {
             let mut whole = Graph::begun(alloc, k, first)?;
-            write(&mut whole, k, &proof)
+            write(&mut whole, &proof)
         }
         _ => Ok(None),
     }
@@ -133,21 +135,21 @@ pub fn hunt_within(
 
 impl Search {
     // Searches with so many applications at most, from a clash on, if there is one.
-    fn run(&mut self, k: &Knowledge, first: Option<Found>, budget: u64) -> Result<Turn, Memory> {
+    fn run(&mut self, first: Option<Found>, budget: u64) -> Result<Turn, Memory> {
         let mut found = first;
         for _ in 0..budget {
-            match self.turn(k, found)? {
+            match self.turn(found)? {
                 Turn::Going(next) => found = next,
                 ended => return Ok(ended),
             }
         }
-        self.last(k, found)
+        self.last(found)
     }
 
     // A clash of the first branch.
-    fn clash_at_first(&self, k: &Knowledge) -> Result<Option<Found>, Memory> {
+    fn clash_at_first(&self) -> Result<Option<Found>, Memory> {
         for node in 0..self.graph.roots {
-            if let Some(found) = self.graph.clash_from(k, node, 0)? {
+            if let Some(found) = self.graph.clash_from(node, 0)? {
                 return Ok(Some(found));
             }
         }
@@ -155,21 +157,21 @@ impl Search {
     }
 
     // The next application, or the end.
-    fn turn(&mut self, k: &Knowledge, found: Option<Found>) -> Result<Turn, Memory> {
+    fn turn(&mut self, found: Option<Found>) -> Result<Turn, Memory> {
         match found {
-            Some(clash) => self.back(k, clash),
-            None => match self.next(k)? {
-                Some(step) => self.forward(k, step.0, step.1),
+            Some(clash) => self.back(clash),
+            None => match self.next()? {
+                Some(step) => self.forward(step.0, step.1),
                 None => Ok(Turn::Open),
             },
         }
     }
 
     // The end where no application is left.
-    fn last(&mut self, k: &Knowledge, found: Option<Found>) -> Result<Turn, Memory> {
+    fn last(&mut self, found: Option<Found>) -> Result<Turn, Memory> {
         match found {
-            Some(clash) => self.back(k, clash),
-            None => match self.next(k)? {
+            Some(clash) => self.back(clash),
+            None => match self.next()? {
                 Some(_) => Ok(Turn::Going(None)),
                 None => Ok(Turn::Open),
             },
@@ -177,13 +179,13 @@ impl Search {
     }
 
     // The first step that applies, and the node that it adds to.
-    fn next(&mut self, k: &Knowledge) -> Result<Option<(Candidate, u64)>, Memory> {
+    fn next(&mut self) -> Result<Option<(Candidate, u64)>, Memory> {
         for _ in 0..self.graph.waiting() {
             match self.graph.pop()? {
                 Some(candidate) => {
-                    if let Some(other) = self.graph.site(k, candidate) {
+                    if let Some(other) = self.graph.site(candidate) {
                         if self.leaps && candidate.rank == Rank::Or {
-                            let tightest = self.graph.pop_tightest(k, candidate)?;
+                            let tightest = self.graph.pop_tightest(candidate)?;
                             return Ok(Some((tightest, other)));
                         }
                         return Ok(Some((candidate, other)));
@@ -196,7 +198,7 @@ impl Search {
     }
 
     // Takes the first choice of a step.
-    fn forward(&mut self, k: &Knowledge, candidate: Candidate, other: u64) -> Result<Turn, Memory> {
+    fn forward(&mut self, candidate: Candidate, other: u64) -> Result<Turn, Memory> {
         let alloc = self.graph.alloc;
         let choices = self.graph.choices(candidate);
         if choices == 0 {
@@ -218,16 +220,16 @@ impl Search {
             choice: 0,
             choices,
             mark: self.graph.mark(),
-            premises: self.graph.premises(k, candidate, other)?,
+            premises: self.graph.premises(candidate, other)?,
             shut: List::new(alloc),
             needs: BTreeSet::new(alloc),
         })?;
         let maker = self.path.len() as u64;
-        Ok(Turn::Going(self.graph.take(k, candidate, other, 0, maker)?))
+        Ok(Turn::Going(self.graph.take(candidate, other, 0, maker)?))
     }
 
     // Goes back from a clash to the last choice that is left and that it rests on, and takes the one after it.
-    fn back(&mut self, k: &Knowledge, found: Found) -> Result<Turn, Memory> {
+    fn back(&mut self, found: Found) -> Result<Turn, Memory> {
         let alloc = self.graph.alloc;
         let mut proof = Proof::Clash(found.node);
         let mut needs = BTreeSet::new(alloc);
@@ -237,13 +239,13 @@ impl Search {
             let is_needed = needs.remove(&number);
             if is_needed || (taken.choices > 1 && !self.leaps) {
                 let mut last = taken;
-                if last.split.rank == Rank::Or || last.split.rank == Rank::Unit {
+                if last.split.rank >= Rank::Unit {
                     self.graph.weigh(last.split.node, last.split.concept)?;
                 }
                 last.shut.push(proof)?;
                 last.needs.append(&mut needs)?;
                 if last.choice.saturating_add(1) < last.choices {
-                    return self.take_next(k, last);
+                    return self.take_next(last);
                 }
                 add_all(&mut last.needs, last.premises.as_slice())?;
                 let Taken {
@@ -260,7 +262,7 @@ impl Search {
     }
 
     // Takes the choice that follows the last one.
-    fn take_next(&mut self, k: &Knowledge, last: Taken) -> Result<Turn, Memory> {
+    fn take_next(&mut self, last: Taken) -> Result<Turn, Memory> {
         let mut taken = last;
         taken.choice = taken.choice.saturating_add(1);
         let choice = taken.choice;
@@ -269,7 +271,7 @@ impl Search {
         self.graph.undo(taken.mark)?;
         self.path.push(taken)?;
         let maker = self.path.len() as u64;
-        Ok(Turn::Going(self.graph.take(k, candidate, other, choice, maker)?))
+        Ok(Turn::Going(self.graph.take(candidate, other, choice, maker)?))
     }
 
     // The choices that led to the branch.

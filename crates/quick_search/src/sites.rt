@@ -1,22 +1,23 @@
 // Where a step applies.
 use crate::concepts::{Form, role_of};
 use crate::graph::{Candidate, Graph, Link, Rank};
-use logic_terms::{Knowledge, Role};
-
-// The other end of an edge, where the edge makes it a neighbour by the role.
-fn end_by(k: &Knowledge, role: Role, node: u64, link: Link) -> Option<u64> {
-    if link.from == node && k.is_below(link.role, role) {
-        return Some(link.to);
-    }
-    if link.to == node && k.is_below(link.role.inverse(), role) {
-        return Some(link.from);
-    }
-    None
-}
+use crate::roles::Way;
+use logic_terms::Role;
 
 impl Graph {
+    // The other end of an edge, where the edge makes it a neighbour by the role.
+    fn end_by(&self, way: Way, node: u64, link: Link) -> Option<u64> {
+        if link.from == node && self.roles.is_below(link.way, way) {
+            return Some(link.to);
+        }
+        if link.to == node && self.roles.is_below(link.way.inverse(), way) {
+            return Some(link.from);
+        }
+        None
+    }
+
     // Whether a step applies, and the node that it adds to: 0 for a rule without one.
-    pub(crate) fn site(&self, k: &Knowledge, candidate: Candidate) -> Option<u64> {
+    pub(crate) fn site(&self, candidate: Candidate) -> Option<u64> {
         let node = candidate.node;
         let concept = self.class(node, candidate.place)?;
         if self.is_shadowed(node) {
@@ -26,18 +27,18 @@ impl Graph {
             (Rank::And, Form::And(_)) => self.zero_where(self.lacks_some(node, concept)),
             (Rank::Unfold, Form::Named(_)) => self.zero_where(self.lacks_some(node, concept)),
             (Rank::All, Form::All(word, inverted, part)) => {
-                self.least_in_need(k, role_of(word, inverted), node, part)
+                self.least_in_need(role_of(word, inverted), node, part)
             }
-            (Rank::Trans, _) => self.least_to_get(k, node, concept),
+            (Rank::Trans, _) => self.least_to_get(node, concept),
             (Rank::Value, Form::Value(word, inverted, _)) => {
-                self.value_site(k, role_of(word, inverted), node, concept)
+                self.value_site(role_of(word, inverted), node, concept)
             }
             (Rank::Unit, Form::Or(_)) => {
                 self.zero_where(self.lacks_all(node, concept) && self.open_count(node, concept) < 2)
             }
             (Rank::Or, Form::Or(_)) => self.zero_where(self.lacks_all(node, concept)),
             (Rank::Some, Form::Some(word, inverted, part)) => self.zero_where(
-                !self.is_blocked(node) && !self.is_served(k, role_of(word, inverted), node, part),
+                !self.is_blocked(node) && !self.is_served(role_of(word, inverted), node, part),
             ),
             _ => None,
         }
@@ -47,9 +48,9 @@ impl Graph {
         if applies { Some(0) } else { None }
     }
 
-    fn value_site(&self, k: &Knowledge, role: Role, node: u64, concept: u64) -> Option<u64> {
+    fn value_site(&self, role: Role, node: u64, concept: u64) -> Option<u64> {
         let named = self.concepts.get(concept)?.named?;
-        self.zero_where(!self.is_blocked(node) && self.link(k, role, node, named).is_none())
+        self.zero_where(!self.is_blocked(node) && self.link(role, node, named).is_none())
     }
 
     // Whether a label lacks a part of a class.
@@ -106,17 +107,12 @@ impl Graph {
     }
 
     // The least neighbour that is not indirectly blocked and lacks a class.
-    pub(crate) fn least_in_need(
-        &self,
-        k: &Knowledge,
-        role: Role,
-        node: u64,
-        part: u64,
-    ) -> Option<u64> {
+    pub(crate) fn least_in_need(&self, role: Role, node: u64, part: u64) -> Option<u64> {
         let mut least: Option<u64> = None;
+        let way = self.roles.way(role);
         for place in 0..self.edge_count(node) {
             if let Some(link) = self.edge_at(node, place) {
-                if let Some(other) = end_by(k, role, node, link) {
+                if let Some(other) = self.end_by(way, node, link) {
                     let is_less = match least {
                         Some(best) => other < best,
                         None => true,
@@ -131,11 +127,11 @@ impl Graph {
     }
 
     // The least neighbour that is not indirectly blocked and lacks what a transitive role carries to it.
-    pub(crate) fn least_to_get(&self, k: &Knowledge, node: u64, concept: u64) -> Option<u64> {
+    pub(crate) fn least_to_get(&self, node: u64, concept: u64) -> Option<u64> {
         let mut least: Option<u64> = None;
         for place in 0..self.concepts.carrier_count(concept) {
             if let Some(entry) = self.concepts.carried(concept, place) {
-                if let Some(other) = self.least_in_need(k, entry.0, node, entry.1) {
+                if let Some(other) = self.least_in_need(entry.0, node, entry.1) {
                     least = Some(least.unwrap_or(other).min(other));
                 }
             }
@@ -143,10 +139,11 @@ impl Graph {
         least
     }
 
-    fn is_served(&self, k: &Knowledge, role: Role, node: u64, part: u64) -> bool {
+    fn is_served(&self, role: Role, node: u64, part: u64) -> bool {
+        let way = self.roles.way(role);
         for place in 0..self.edge_count(node) {
             if let Some(link) = self.edge_at(node, place) {
-                if let Some(other) = end_by(k, role, node, link) {
+                if let Some(other) = self.end_by(way, node, link) {
                     if self.has(other, part) && !self.is_shadowed(other) {
                         return true;
                     }
@@ -157,10 +154,11 @@ impl Graph {
     }
 
     // The place of an edge, among those of the node, that makes the other node a neighbour by the role.
-    pub(crate) fn link(&self, k: &Knowledge, role: Role, node: u64, other: u64) -> Option<usize> {
+    pub(crate) fn link(&self, role: Role, node: u64, other: u64) -> Option<usize> {
+        let way = self.roles.way(role);
         for place in 0..self.edge_count(node) {
             if let Some(link) = self.edge_at(node, place) {
-                if end_by(k, role, node, link) == Some(other) {
+                if self.end_by(way, node, link) == Some(other) {
                     return Some(place);
                 }
             }

@@ -1,7 +1,6 @@
 // Taking steps, and the clashes that they make.
 use crate::concepts::{Form, role_of};
 use crate::graph::{Candidate, Graph, Link, Rank};
-use logic_terms::Knowledge;
 use tableau_rules::Clash;
 use wiki_base::Memory;
 
@@ -25,7 +24,6 @@ impl Graph {
     // Takes a choice of a step, and finds a clash that it makes.
     pub(crate) fn take(
         &mut self,
-        k: &Knowledge,
         candidate: Candidate,
         other: u64,
         choice: u64,
@@ -49,11 +47,11 @@ impl Graph {
                 self.put(candidate)?;
             }
             (Rank::Trans, _) => {
-                self.add_carried(k, node, concept, other, maker)?;
+                self.add_carried(node, concept, other, maker)?;
                 self.put(candidate)?;
             }
             (Rank::Value, Form::Value(word, inverted, _)) => {
-                return self.take_value(k, node, concept, word, inverted, maker);
+                return self.take_value(node, concept, word, inverted, maker);
             }
             (Rank::Unit, _) => {
                 let place = self.first_open(node, concept).unwrap_or(0);
@@ -61,11 +59,11 @@ impl Graph {
             }
             (Rank::Or, _) => self.add_part(node, concept, choice, maker)?,
             (Rank::Some, Form::Some(word, inverted, part)) => {
-                return self.take_some(k, node, word, inverted, part, maker);
+                return self.take_some(node, word, inverted, part, maker);
             }
             _ => {}
         }
-        self.clash_from(k, grown, before)
+        self.clash_from(grown, before)
     }
 
     fn add_part(&mut self, node: u64, concept: u64, place: u64, maker: u64) -> Result<(), Memory> {
@@ -85,7 +83,6 @@ impl Graph {
     // Adds what transitive roles carry of a class to a neighbour.
     fn add_carried(
         &mut self,
-        k: &Knowledge,
         node: u64,
         concept: u64,
         other: u64,
@@ -93,7 +90,7 @@ impl Graph {
     ) -> Result<(), Memory> {
         for place in 0..self.concepts.carrier_count(concept) {
             if let Some(entry) = self.concepts.carried(concept, place) {
-                if self.link(k, entry.0, node, other).is_some() {
+                if self.link(entry.0, node, other).is_some() {
                     self.add_class(other, entry.1, maker)?;
                 }
             }
@@ -103,7 +100,6 @@ impl Graph {
 
     fn take_value(
         &mut self,
-        k: &Knowledge,
         node: u64,
         concept: u64,
         word: u32,
@@ -117,21 +113,21 @@ impl Graph {
         let Some(to) = named else {
             return Ok(None);
         };
+        let way = self.roles.way(role_of(word, inverted));
         self.add_edge(Link {
             from: node,
-            role: role_of(word, inverted),
+            way,
             to,
             maker,
         })?;
-        match self.value_clash_from(k, node, 0)? {
+        match self.value_clash_from(node, 0)? {
             Some(found) => Ok(Some(found)),
-            None => self.value_clash_from(k, to, 0),
+            None => self.value_clash_from(to, 0),
         }
     }
 
     fn take_some(
         &mut self,
-        k: &Knowledge,
         node: u64,
         word: u32,
         inverted: bool,
@@ -140,9 +136,10 @@ impl Graph {
     ) -> Result<Option<Found>, Memory> {
         let to = self.nodes.len() as u64;
         self.add_node(Some(node))?;
+        let way = self.roles.way(role_of(word, inverted));
         self.add_edge(Link {
             from: node,
-            role: role_of(word, inverted),
+            way,
             to,
             maker,
         })?;
@@ -153,27 +150,22 @@ impl Graph {
                 self.add_class(to, concept, maker)?;
             }
         }
-        self.clash_from(k, to, 0)
+        self.clash_from(to, 0)
     }
 
     // The steps that a step rests on.
-    pub(crate) fn premises(
-        &self,
-        k: &Knowledge,
-        candidate: Candidate,
-        other: u64,
-    ) -> Result<Vec<u64>, Memory> {
+    pub(crate) fn premises(&self, candidate: Candidate, other: u64) -> Result<Vec<u64>, Memory> {
         let node = candidate.node;
         let mut makers = Vec::new(self.alloc);
         makers.push(self.maker(node, candidate.place))?;
         if let Some(concept) = self.class(node, candidate.place) {
             match (candidate.rank, self.concepts.form(concept)) {
                 (Rank::All, Form::All(word, inverted, _)) => {
-                    if let Some(place) = self.link(k, role_of(word, inverted), node, other) {
+                    if let Some(place) = self.link(role_of(word, inverted), node, other) {
                         makers.push(self.link_maker(node, place))?;
                     }
                 }
-                (Rank::Trans, _) => self.add_links(k, node, concept, other, &mut makers)?,
+                (Rank::Trans, _) => self.add_links(node, concept, other, &mut makers)?,
                 (Rank::Unit, _) => self.add_deniers(node, concept, &mut makers)?,
                 _ => {}
             }
@@ -184,7 +176,6 @@ impl Graph {
     // The steps that made edges by which transitive roles carry a class to a neighbour.
     fn add_links(
         &self,
-        k: &Knowledge,
         node: u64,
         concept: u64,
         other: u64,
@@ -192,7 +183,7 @@ impl Graph {
     ) -> Result<(), Memory> {
         for place in 0..self.concepts.carrier_count(concept) {
             if let Some(entry) = self.concepts.carried(concept, place) {
-                if let Some(link) = self.link(k, entry.0, node, other) {
+                if let Some(link) = self.link(entry.0, node, other) {
                     makers.push(self.link_maker(node, link))?;
                 }
             }
@@ -220,18 +211,13 @@ impl Graph {
     }
 
     // A clash at a node with one of the classes from a place on.
-    pub(crate) fn clash_from(
-        &self,
-        k: &Knowledge,
-        node: u64,
-        start: u64,
-    ) -> Result<Option<Found>, Memory> {
+    pub(crate) fn clash_from(&self, node: u64, start: u64) -> Result<Option<Found>, Memory> {
         for place in start..self.label_len(node) {
             if let Some(found) = self.clash_at(node, place)? {
                 return Ok(Some(found));
             }
         }
-        self.value_clash_from(k, node, start)
+        self.value_clash_from(node, start)
     }
 
     fn clash_at(&self, node: u64, place: u64) -> Result<Option<Found>, Memory> {
@@ -274,16 +260,11 @@ impl Graph {
     }
 
     // A clash of the complement of a value, at a place from this one on, with an edge.
-    fn value_clash_from(
-        &self,
-        k: &Knowledge,
-        node: u64,
-        start: u64,
-    ) -> Result<Option<Found>, Memory> {
+    fn value_clash_from(&self, node: u64, start: u64) -> Result<Option<Found>, Memory> {
         for place in start..self.label_len(node) {
             if let Some(concept) = self.class(node, place) {
                 if let Form::Not(inner) = self.concepts.form(concept) {
-                    if let Some(found) = self.value_clash(k, node, place, inner)? {
+                    if let Some(found) = self.value_clash(node, place, inner)? {
                         return Ok(Some(found));
                     }
                 }
@@ -292,13 +273,7 @@ impl Graph {
         Ok(None)
     }
 
-    fn value_clash(
-        &self,
-        k: &Knowledge,
-        node: u64,
-        place: u64,
-        value: u64,
-    ) -> Result<Option<Found>, Memory> {
+    fn value_clash(&self, node: u64, place: u64, value: u64) -> Result<Option<Found>, Memory> {
         let Form::Value(word, inverted, _) = self.concepts.form(value) else {
             return Ok(None);
         };
@@ -309,7 +284,7 @@ impl Graph {
         let Some(to) = named else {
             return Ok(None);
         };
-        let Some(at) = self.link(k, role_of(word, inverted), node, to) else {
+        let Some(at) = self.link(role_of(word, inverted), node, to) else {
             return Ok(None);
         };
         let clash = Clash::NoValue(node, place, self.edge_number(node, at));

@@ -26,27 +26,18 @@ impl Moved {
 }
 
 // The tree that closes the first branch, which the graph is at; none where it is not found.
-pub(crate) fn write(
-    graph: &mut Graph,
-    k: &Knowledge,
-    proof: &Proof,
-) -> Result<Option<Closed>, Memory> {
+pub(crate) fn write(graph: &mut Graph, proof: &Proof) -> Result<Option<Closed>, Memory> {
     let mut moved = Moved {
         nodes: Vec::new(graph.alloc),
     };
-    written(graph, k, &mut moved, proof)
+    written(graph, &mut moved, proof)
 }
 
-fn written(
-    graph: &mut Graph,
-    k: &Knowledge,
-    moved: &mut Moved,
-    proof: &Proof,
-) -> Result<Option<Closed>, Memory> {
+fn written(graph: &mut Graph, moved: &mut Moved, proof: &Proof) -> Result<Option<Closed>, Memory> {
     match proof {
-        Proof::Clash(node) => shut(graph, k, moved.now(*node)),
+        Proof::Clash(node) => shut(graph, moved.now(*node)),
         Proof::Step(split, proofs) => {
-            let Some(stand) = found_again(graph, k, moved, *split)? else {
+            let Some(stand) = found_again(graph, moved, *split)? else {
                 return Ok(None);
             };
             let mut trees = List::new(graph.alloc);
@@ -55,8 +46,8 @@ fn written(
                 if stand.takes(choice) {
                     let mark = graph.mark();
                     let known = moved.nodes.len();
-                    enter(graph, k, moved, &stand, choice)?;
-                    let tree = written(graph, k, moved, proof)?;
+                    enter(graph, moved, &stand, choice)?;
+                    let tree = written(graph, moved, proof)?;
                     graph.undo(mark)?;
                     moved.nodes.truncate(known);
                     match tree {
@@ -121,20 +112,15 @@ impl Stand {
     }
 }
 
-fn shut(graph: &Graph, k: &Knowledge, node: u64) -> Result<Option<Closed>, Memory> {
-    match graph.clash_from(k, node, 0)? {
+fn shut(graph: &Graph, node: u64) -> Result<Option<Closed>, Memory> {
+    match graph.clash_from(node, 0)? {
         Some(found) => Ok(Some(Closed::Clash(found.clash))),
         None => Ok(None),
     }
 }
 
 // Where a step stands now; none where its class is missing.
-fn found_again(
-    graph: &mut Graph,
-    k: &Knowledge,
-    moved: &Moved,
-    split: Split,
-) -> Result<Option<Stand>, Memory> {
+fn found_again(graph: &mut Graph, moved: &Moved, split: Split) -> Result<Option<Stand>, Memory> {
     let node = moved.now(split.node);
     let Some(place) = graph.place(node, split.concept) else {
         return Ok(None);
@@ -149,8 +135,8 @@ fn found_again(
     } else {
         0
     };
-    let early = led(graph, k, candidate, split.concept, wanted)?;
-    let only = match graph.site(k, candidate) {
+    let early = led(graph, candidate, split.concept, wanted)?;
+    let only = match graph.site(candidate) {
         Some(other) if other == wanted => None,
         _ => Some(graph.part_had(node, split.concept).unwrap_or(0)),
     };
@@ -170,7 +156,6 @@ fn found_again(
 // Takes the steps of a class of all successors at the neighbours before one.
 fn led(
     graph: &mut Graph,
-    k: &Knowledge,
     candidate: Candidate,
     concept: u64,
     wanted: u64,
@@ -178,9 +163,9 @@ fn led(
     let mut early = List::new(graph.alloc);
     if candidate.rank.reaches_out() {
         for _ in 0..graph.edge_count(candidate.node) {
-            match next_to_get(graph, k, candidate, concept) {
+            match next_to_get(graph, candidate, concept) {
                 Some(other) if other < wanted => {
-                    let _ = graph.take(k, candidate, other, 0, 0)?;
+                    let _ = graph.take(candidate, other, 0, 0)?;
                     early.push(step_of(candidate, other))?;
                 }
                 _ => return Ok(early),
@@ -191,31 +176,25 @@ fn led(
 }
 
 // The least neighbour that a step by a class of all successors adds to.
-fn next_to_get(graph: &Graph, k: &Knowledge, candidate: Candidate, concept: u64) -> Option<u64> {
+fn next_to_get(graph: &Graph, candidate: Candidate, concept: u64) -> Option<u64> {
     match (candidate.rank, graph.concepts.form(concept)) {
         (Rank::All, Form::All(word, inverted, part)) => {
-            graph.least_in_need(k, role_of(word, inverted), candidate.node, part)
+            graph.least_in_need(role_of(word, inverted), candidate.node, part)
         }
-        (Rank::Trans, _) => graph.least_to_get(k, candidate.node, concept),
+        (Rank::Trans, _) => graph.least_to_get(candidate.node, concept),
         _ => None,
     }
 }
 
 // Takes a choice of a step, if the step is needed.
-fn enter(
-    graph: &mut Graph,
-    k: &Knowledge,
-    moved: &mut Moved,
-    stand: &Stand,
-    choice: u64,
-) -> Result<(), Memory> {
+fn enter(graph: &mut Graph, moved: &mut Moved, stand: &Stand, choice: u64) -> Result<(), Memory> {
     if stand.only.is_none() {
         if stand.split.rank == Rank::Some {
             moved
                 .nodes
                 .push((stand.split.made, graph.nodes.len() as u64))?;
         }
-        let _ = graph.take(k, stand.candidate, stand.other, choice, 0)?;
+        let _ = graph.take(stand.candidate, stand.other, choice, 0)?;
     }
     Ok(())
 }

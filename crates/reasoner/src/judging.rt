@@ -25,7 +25,7 @@ use wiki_base::Memory;
 const LEAST_PROPOSING_BUDGET: u64 = 100_000;
 
 // How much may be looked at for a proposal.
-const MOST_LOOKS: u64 = 10_000_000;
+const MOST_LOOKS: u64 = 40_000_000;
 
 /// Whether axioms over these names have a finite model. The kept interpretation is tried first, and then, from a budget of
 /// 100,000 on, one that grows out of it and one in which successors are shared: where one of them is a model, no search is made.
@@ -173,13 +173,13 @@ fn proposed_verdict(
     let knowledge = absorb(alloc, &axioms, names)?;
     match propose(alloc, &knowledge, &axioms, kept, MOST_LOOKS)? {
         Proposed::Model(interp) => shared_verdict(alloc, interp, axioms, names, budget),
-        Proposed::Clash(places) => {
+        Proposed::Clash(part) => {
             let stated = Stated {
                 axioms: &axioms,
                 names,
                 knowledge: &knowledge,
             };
-            match refuted(alloc, &stated, places.as_slice(), budget)? {
+            match refuted(alloc, &stated, &part, budget)? {
                 Some(tree) => Ok(Verdict::Inconsistent(tree)),
                 None => decided_verdict(alloc, axioms, names, budget),
             }

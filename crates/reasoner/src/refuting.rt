@@ -8,17 +8,17 @@ ghost use Rattle.tableau_rules.specs.Trees.{tree_of, is_closed};
 
 use absorb::absorb;
 use logic_terms::{Axiom, Axioms, Knowledge, Names};
-use shared_search::narrow;
+use shared_search::{Part, narrow};
 use std::alloc::Global;
 use tableau::refute;
 use tableau_rules::Closed;
 use wiki_base::Memory;
 
 // With how many rule applications a part is tried before it is made smaller.
-const FIRST_BUDGET: u64 = 20_000;
+const FIRST_BUDGET: u64 = 500;
 
-// How much may be looked at for each axiom that is left out of a part.
-const MOST_LOOKS: u64 = 200_000;
+// How much may be looked at to make a part smaller.
+const MOST_LOOKS: u64 = 4_000_000;
 
 // What is said by axioms over names, and absorbed.
 #[derive(Clone, Copy)]
@@ -28,40 +28,48 @@ pub(crate) struct Stated<'a> {
     pub(crate) knowledge: &'a Knowledge,
 }
 
-// A closed tree of the knowledge, if the axioms at these places, or fewer of them, lead to one.
+// A closed tree of the knowledge, if a part of the axioms, or a smaller one, leads to one.
 pub(crate) fn refuted(
     alloc: Global,
     stated: &Stated<'_>,
-    places: &[usize],
+    chosen: &Part,
     budget: u64,
 ) -> Result<Option<Closed>, Memory>
     requires { IsTrue (are_over stated.now.names.now (claims_of stated.now.axioms.now)) }
     ensures closed { IfOk result (λ o. IfSome o (λ tree. IsTrue (is_closed (theory_of stated.now.knowledge.now) (tree_of tree)))) }
     ensures no_model { IfOk result (λ o. IfSome o (λ _. HasNoModel (theory_of stated.now.knowledge.now))) }
 {
-    match refuted_by(alloc, stated, places, budget.min(FIRST_BUDGET))? {
-        Some(tree) => Ok(Some(tree)),
-        None => {
-            let fewer = narrow(alloc, stated.knowledge, stated.axioms, places, MOST_LOOKS)?;
-            refuted_by(alloc, stated, fewer.as_slice(), budget)
-        }
+    if let Some(tree) = refuted_by(alloc, stated, chosen, budget.min(FIRST_BUDGET))? {
+        return Ok(Some(tree));
     }
+    let mut fewer = narrow(alloc, stated.knowledge, stated.axioms, chosen, MOST_LOOKS)?;
+    if let Some(tree) = refuted_by(alloc, stated, &fewer, budget)? {
+        return Ok(Some(tree));
+    }
+    fewer.names = Vec::from_slice(alloc, stated.names.as_slice())?;
+    refuted_by(alloc, stated, &fewer, budget)
 }
 
-// A closed tree of the knowledge, if the axioms at these places lead to one.
+// A closed tree of the knowledge, if a part of the axioms leads to one.
 fn refuted_by(
     alloc: Global,
     stated: &Stated<'_>,
-    places: &[usize],
+    chosen: &Part,
     budget: u64,
 ) -> Result<Option<Closed>, Memory>
     requires { IsTrue (are_over stated.now.names.now (claims_of stated.now.axioms.now)) }
     ensures closed { IfOk result (λ o. IfSome o (λ tree. IsTrue (is_closed (theory_of stated.now.knowledge.now) (tree_of tree)))) }
     ensures no_model { IfOk result (λ o. IfSome o (λ _. HasNoModel (theory_of stated.now.knowledge.now))) }
 {
-    let chosen = part(alloc, stated, places)?;
-    let within = absorb(alloc, &chosen, stated.names)?;
-    refute(alloc, stated.knowledge, &within, budget)
+    let axioms = part(alloc, stated, chosen.places.as_slice())?;
+    let within = absorb(alloc, &axioms, stated.names)?;
+    refute(
+        alloc,
+        stated.knowledge,
+        &within,
+        chosen.names.as_slice(),
+        budget,
+    )
 }
 
 // The axioms at these places, and all on roles and on which names are one.

@@ -101,6 +101,10 @@ pub(crate) struct Graph {
     own: BTreeMap<(usize, usize), usize>,
     numbers: BTreeMap<(usize, usize, usize), usize>,
     pub(crate) offers: Vec<Offer>,
+    // The nodes that have each class.
+    bearers: Vec<Vec<usize>>,
+    // The nodes that are like each element of the kept model.
+    alike: BTreeMap<u64, Vec<usize>>,
     pub(crate) clash: Option<Clash>,
     // Classes of nodes that ask for a successor, and unions of nodes, which are still to be looked at from a place on.
     pub(crate) errands: Vec<(usize, usize)>,
@@ -151,10 +155,15 @@ impl Graph {
             own: BTreeMap::new(alloc),
             numbers: BTreeMap::new(alloc),
             offers: Vec::new(alloc),
+            bearers: Vec::new(alloc),
+            alike: BTreeMap::new(alloc),
             clash: None,
             errands: Vec::new(alloc),
             unions: Vec::new(alloc),
         };
+        for _ in 0..terms.len() {
+            graph.bearers.push(Vec::new(alloc))?;
+        }
         for _ in 0..roots {
             graph.push_node(false)?;
         }
@@ -233,10 +242,54 @@ impl Graph {
         }
     }
 
-    pub(crate) fn set_model(&mut self, node: usize, model: Option<u64>) {
-        if let Some(spot) = self.nodes.get_mut(node) {
-            spot.model = model;
+    // The nodes that have a class.
+    pub(crate) fn bearers(&self, number: usize) -> &[usize] {
+        match self.bearers.get(number) {
+            Some(nodes) => nodes.as_slice(),
+            None => &[],
         }
+    }
+
+    // The nodes that are like an element of the kept model.
+    pub(crate) fn alike(&self, element: u64) -> &[usize] {
+        match self.alike.get(&element) {
+            Some(nodes) => nodes.as_slice(),
+            None => &[],
+        }
+    }
+
+    // A node is like an element of the kept model from now on, or like none.
+    pub(crate) fn set_model(&mut self, node: usize, model: Option<u64>) -> Result<(), Memory> {
+        let Some(spot) = self.nodes.get_mut(node) else {
+            return Ok(());
+        };
+        let before = spot.model;
+        spot.model = model;
+        if before == model {
+            return Ok(());
+        }
+        if let Some(element) = before {
+            if let Some(nodes) = self.alike.get_mut(&element) {
+                if let Some(place) = nodes.iter().position(|other| *other == node) {
+                    let _ = nodes.remove(place);
+                }
+            }
+        }
+        match model {
+            Some(element) => self.add_alike(element, node),
+            None => Ok(()),
+        }
+    }
+
+    fn add_alike(&mut self, element: u64, node: usize) -> Result<(), Memory> {
+        if let Some(nodes) = self.alike.get_mut(&element) {
+            nodes.push(node)?;
+            return Ok(());
+        }
+        let mut nodes = Vec::new(self.alloc);
+        nodes.push(node)?;
+        let _ = self.alike.insert(element, nodes)?;
+        Ok(())
     }
 
     pub(crate) fn link(&self, edge: usize) -> Option<Link> {
@@ -315,6 +368,9 @@ impl Graph {
                 *place = u32::try_from(since).unwrap_or(u32::MAX);
             }
             spot.note_demands(terms, number)?;
+        }
+        if let Some(nodes) = self.bearers.get_mut(number) {
+            nodes.push(node)?;
         }
         self.note(Event::Came(Fact::Class(node, number)), reasons, ground)
     }
@@ -477,6 +533,9 @@ impl Graph {
                 *place = 0;
             }
             spot.drop_demands(number);
+        }
+        if let Some(nodes) = self.bearers.get_mut(number) {
+            let _ = nodes.pop();
         }
     }
 

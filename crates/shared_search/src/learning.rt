@@ -17,6 +17,8 @@ pub(crate) enum Finding {
 #[derive(Drop)]
 struct Trace {
     places: BTreeSet<usize>,
+    // How many axioms and nodes of names there are.
+    counts: (usize, usize),
     sources: Sources,
     grounds: BTreeSet<Fact>,
     rest: Vec<Fact>,
@@ -25,19 +27,20 @@ struct Trace {
 }
 
 impl Graph {
-    // What a clash comes to, where so many changes came before the first choice, and the choices at these places. The facts that
+    // What a clash comes to, where there are so many axioms and nodes of names, and the choices at these places. The facts that
     // were gone through are added to a list.
     pub(crate) fn traced(
         &self,
         lessons: &Lessons,
         clash: &Clash,
         choices: &[usize],
-        count: usize,
+        counts: (usize, usize),
         seen: &mut Vec<Fact>,
     ) -> Result<Finding, Memory> {
         let mut trace = Trace {
             places: BTreeSet::new(self.alloc),
-            sources: Sources::new(self.alloc, count)?,
+            counts,
+            sources: Sources::new(self.alloc, counts.0.saturating_add(counts.1))?,
             grounds: BTreeSet::new(self.alloc),
             rest: Vec::new(self.alloc),
             seen: Vec::new(self.alloc),
@@ -154,6 +157,7 @@ impl Graph {
     fn expand(&self, lessons: &Lessons, trace: &mut Trace, place: usize) -> Result<(), Memory> {
         if let Some(change) = self.trail.get(place) {
             trace.rest_on(lessons, change.ground)?;
+            trace.note_node(change.event);
         }
         for reason in self.reasons_of(place) {
             trace.put(self, *reason)?;
@@ -185,6 +189,15 @@ impl Trace {
             let _ = self.places.insert(since.saturating_sub(1))?;
         }
         Ok(())
+    }
+
+    // Notes that a clash has to do with a class of a name's node.
+    fn note_node(&mut self, event: Event) {
+        if let Event::Came(Fact::Class(node, _)) = event {
+            if node < self.counts.1 {
+                self.sources.add(self.counts.0.saturating_add(node));
+            }
+        }
     }
 
     // Notes what a fact rests on beside its reasons.

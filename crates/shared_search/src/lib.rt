@@ -12,6 +12,7 @@ mod rules;
 mod searching;
 mod sharing;
 mod spreading;
+mod table;
 mod terms;
 
-pub use proposing::{Proposed, narrow, propose};
+pub use proposing::{Part, Proposed, narrow, propose};

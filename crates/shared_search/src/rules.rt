@@ -1,5 +1,6 @@
 // What a search is told: the rules for classes of labels, and what the names' elements are in.
 use crate::lessons::Sources;
+use crate::table::Table;
 use crate::terms::{Form, Terms, Way};
 use logic_terms::{Axiom, Axioms, Class, Classes, Knowledge, Role};
 use owl_eval::Interp;
@@ -43,11 +44,14 @@ pub(crate) struct Rules {
     pub(crate) roots: usize,
     // Those of them that have to have an element.
     pub(crate) there: BTreeSet<usize>,
+    // Those of them whose element is in what each one is in.
+    pub(crate) filled: Vec<usize>,
     // The classes of names' nodes, and what relates these.
     pub(crate) seeds: Vec<Seed>,
     pub(crate) edges: Vec<Given>,
-    // The roles above a role.
+    // The roles above a role, and the same as a table.
     above: BTreeMap<Way, Vec<Way>>,
+    table: Table,
     // The place of the axiom that is looked at, and how many there are.
     source: usize,
     pub(crate) sources: usize,
@@ -80,9 +84,11 @@ impl Rules {
             nodes: BTreeMap::new(alloc),
             roots: 0,
             there: BTreeSet::new(alloc),
+            filled: Vec::new(alloc),
             seeds: Vec::new(alloc),
             edges: Vec::new(alloc),
             above: BTreeMap::new(alloc),
+            table: Table::new(alloc, k)?,
             source: 0,
             sources: axioms.len(),
             false_difference: None,
@@ -101,7 +107,29 @@ impl Rules {
             Some(_) => rules.note_spoken_of()?,
             None => rules.note_all()?,
         }
+        rules.fill(only)?;
         Ok(rules)
+    }
+
+    // Notes which nodes of names are in what each element is in.
+    fn fill(&mut self, only: Option<&Sources>) -> Result<(), Memory> {
+        let first = self.place_of(0);
+        for node in self.there.iter() {
+            let place = first.saturating_add(*node);
+            let is_filled = match only {
+                Some(sources) => sources.has(place),
+                None => true,
+            };
+            if is_filled {
+                self.filled.push(*node)?;
+            }
+        }
+        Ok(())
+    }
+
+    // The place that stands for a name's node, behind those of axioms.
+    pub(crate) fn place_of(&self, node: usize) -> usize {
+        self.sources.saturating_add(node)
     }
 
     fn note_all(&mut self) -> Result<(), Memory> {
@@ -145,7 +173,13 @@ impl Rules {
     }
 
     pub(crate) fn is_below(&self, below: Way, above: Way) -> bool {
-        below == above || self.above(below).contains(&above)
+        if below == above {
+            return true;
+        }
+        match self.table.has(below, above) {
+            Some(is_below) => is_below,
+            None => self.above(below).contains(&above),
+        }
     }
 
     fn take_names(&mut self, k: &Knowledge) -> Result<(), Memory> {

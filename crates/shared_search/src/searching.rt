@@ -6,6 +6,7 @@ use crate::rules::Rules;
 use crate::sharing::Errand;
 use crate::terms::Form;
 use logic_terms::Knowledge;
+use std::collections::{BTreeMap, BTreeSet};
 use wiki_base::Memory;
 
 // What was there before a choice: changes, errands and unions, and those to go on with. The union that is chosen of.
@@ -14,6 +15,7 @@ struct Level {
     trail: usize,
     errands: usize,
     unions: usize,
+    next_hot: usize,
     next_errand: usize,
     next_union: usize,
     union: usize,
@@ -26,17 +28,23 @@ pub(crate) struct Search {
     levels: Vec<Level>,
     // How far changes, errands and unions were looked at.
     next: usize,
+    next_hot: usize,
     next_errand: usize,
     next_union: usize,
+    // Classes of nodes that ask for a successor and had to do with clashes: they come first.
+    hot: Vec<(usize, usize)>,
+    are_hot: BTreeSet<(usize, usize)>,
     // Of each union, how much it had to do with clashes, and the place of the member that was chosen last.
     weights: Vec<u64>,
     chosen: Vec<usize>,
     gain: u64,
+    // The node that was found last to serve a class of a node that asks for a successor.
+    served: BTreeMap<(usize, usize), usize>,
     clashes: u64,
     // How many clashes end a round.
     patience: u64,
     // How much was looked at.
-    looks: u64,
+    pub(crate) looks: u64,
 }
 
 // How a search ends.
@@ -59,18 +67,22 @@ const MOST_COMPARED: usize = 256;
 
 const FIRST_PATIENCE: u64 = 64;
 
+// From which gain on all weights are made smaller, and by how many bits.
+const MOST_GAIN: u64 = 1 << 40;
+
+const SHRINKS: u32 = 30;
+
 impl Search {
     // Whether the labels of names alone take too much memory.
     pub(crate) fn is_beyond(rules: &Rules) -> bool {
         rules.terms.len().saturating_mul(rules.roots) > MOST_NUMBERS
     }
 
-    // A search that begins with the facts on names.
-    pub(crate) fn begun(rules: &Rules, k: &Knowledge) -> Result<Search, Memory> {
-        let alloc = rules.terms.alloc;
-        let mut graph = Graph::new(alloc, &rules.terms, rules.roots)?;
+    // The facts on names.
+    fn facts(rules: &Rules, k: &Knowledge) -> Result<Graph, Memory> {
+        let mut graph = Graph::new(rules.terms.alloc, &rules.terms, rules.roots)?;
         for entry in k.names() {
-            graph.set_model(rules.node(entry.1.0), rules.element(entry.1.0));
+            graph.set_model(rules.node(entry.1.0), rules.element(entry.1.0))?;
         }
         for given in &rules.edges {
             let ground = Ground::Axiom(given.source);
@@ -82,11 +94,20 @@ impl Search {
         }
         for node in rules.there.iter() {
             graph.set_there(*node, true);
+        }
+        for node in &rules.filled {
             for class in &rules.general {
                 let ground = Ground::Axiom(class.1);
                 graph.add(&rules.terms, *node, class.0, &[], ground)?;
             }
         }
+        Ok(graph)
+    }
+
+    // A search that begins with the facts on names.
+    pub(crate) fn begun(rules: &Rules, k: &Knowledge) -> Result<Search, Memory> {
+        let alloc = rules.terms.alloc;
+        let graph = Search::facts(rules, k)?;
         let mut weights = Vec::new(alloc);
         let mut chosen = Vec::new(alloc);
         for _ in 0..rules.terms.len() {
@@ -98,11 +119,15 @@ impl Search {
             lessons: Lessons::new(alloc),
             levels: Vec::new(alloc),
             next: 0,
+            next_hot: 0,
             next_errand: 0,
             next_union: 0,
+            hot: Vec::new(alloc),
+            are_hot: BTreeSet::new(alloc),
             weights,
             chosen,
             gain: 1,
+            served: BTreeMap::new(alloc),
             clashes: 0,
             patience: FIRST_PATIENCE,
             looks: 0,
@@ -169,6 +194,17 @@ impl Search {
         }
         if let Some((node, union)) = self.next_choice(rules) {
             self.choose(rules, node, union)?;
+            return Ok(true);
+        }
+        if let Some(errand) = self.hot.get(self.next_hot).copied() {
+            self.looks = self.looks.saturating_add(1);
+            if self.graph.has(errand.0, errand.1) {
+                if let Some(found) = self.graph.errand(rules, errand.0, errand.1) {
+                    self.serve(rules, found)?;
+                    return Ok(true);
+                }
+            }
+            self.next_hot = self.next_hot.saturating_add(1);
             return Ok(true);
         }
         if let Some(errand) = self.graph.errands.get(self.next_errand).copied() {
@@ -343,6 +379,7 @@ impl Search {
             trail: self.graph.trail.len(),
             errands: self.graph.errands.len(),
             unions: self.graph.unions.len(),
+            next_hot: self.next_hot,
             next_errand: self.next_errand,
             next_union: self.next_union,
             union,
@@ -350,23 +387,39 @@ impl Search {
         Ok(())
     }
 
-    // Gives a node the successor that one of its classes asks for.
+    // Gives a node the successor that one of its classes asks for: the one that it had last, or the best.
     fn serve(&mut self, rules: &Rules, errand: Errand) -> Result<(), Memory> {
-        let nodes = self.graph.nodes.len() as u64;
-        self.looks = self.looks.saturating_add(nodes);
-        match self.graph.best(rules, errand)? {
-            Some(other) => {
-                let offer = self.graph.offer(errand.node, errand.number, other)?;
-                self.open(usize::MAX)?;
-                self.graph.share(offer)?;
-                let reasons = [Fact::Class(errand.node, errand.number), Fact::Shared(offer)];
-                self.graph.give(rules, errand, other, &reasons)
+        let key = (errand.node, errand.number);
+        match self.served.get(&key).copied() {
+            Some(other) if self.graph.does_well(rules, errand, other)? => {
+                self.serve_by(rules, errand, other)
             }
-            None => {
-                let _ = self.graph.give_own(rules, errand)?;
-                Ok(())
+            _ => {
+                let bearers = self.graph.bearers(errand.part).len() as u64;
+                self.looks = self.looks.saturating_add(bearers);
+                let best = self.graph.best(rules, errand)?;
+                match best {
+                    Some(other) => {
+                        let _ = self.served.insert(key, other)?;
+                        self.serve_by(rules, errand, other)
+                    }
+                    None => self.serve_alone(rules, errand),
+                }
             }
         }
+    }
+
+    fn serve_by(&mut self, rules: &Rules, errand: Errand, other: usize) -> Result<(), Memory> {
+        let offer = self.graph.offer(errand.node, errand.number, other)?;
+        self.open(usize::MAX)?;
+        self.graph.share(offer)?;
+        let reasons = [Fact::Class(errand.node, errand.number), Fact::Shared(offer)];
+        self.graph.give(rules, errand, other, &reasons)
+    }
+
+    fn serve_alone(&mut self, rules: &Rules, errand: Errand) -> Result<(), Memory> {
+        let _ = self.graph.give_own(rules, errand)?;
+        Ok(())
     }
 
     // Learns of a clash and goes back; where it rests on no choice, answers the axioms that it rests on.
@@ -380,7 +433,7 @@ impl Search {
             &self.lessons,
             &clash,
             choices.as_slice(),
-            rules.sources,
+            (rules.sources, rules.roots),
             &mut seen,
         )?;
         match found {
@@ -388,6 +441,7 @@ impl Search {
             Finding::Lesson(lesson) => {
                 self.weigh(rules, seen.as_slice());
                 let level = self.level_for(lesson.facts.as_slice(), choices.as_slice());
+                self.heat(lesson.facts.as_slice())?;
                 let first = lesson.facts.first().copied();
                 let number = self.lessons.put(lesson)?;
                 self.clashes = self.clashes.saturating_add(1);
@@ -423,6 +477,27 @@ impl Search {
             self.add_weight(level.union);
         }
         self.gain = self.gain.saturating_add(self.gain / 16).saturating_add(1);
+        if self.gain > MOST_GAIN {
+            self.gain >>= SHRINKS;
+            for weight in self.weights.iter_mut() {
+                *weight >>= SHRINKS;
+            }
+        }
+    }
+
+    // Classes whose successors had to do with a clash come first from now on.
+    fn heat(&mut self, facts: &[Fact]) -> Result<(), Memory> {
+        for fact in facts {
+            if let Fact::Shared(number) = fact {
+                if let Some(offer) = self.graph.offers.get(*number).copied() {
+                    let errand = (offer.node, offer.number);
+                    if self.are_hot.insert(errand)? {
+                        self.hot.push(errand)?;
+                    }
+                }
+            }
+        }
+        Ok(())
     }
 
     fn add_weight(&mut self, union: usize) {
@@ -439,6 +514,7 @@ impl Search {
             self.graph.errands.truncate(level.errands);
             self.graph.unions.truncate(level.unions);
             self.next = level.trail;
+            self.next_hot = level.next_hot;
             self.next_errand = level.next_errand;
             self.next_union = level.next_union;
             self.levels.truncate(count);

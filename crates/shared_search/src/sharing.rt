@@ -14,22 +14,18 @@ pub(crate) struct Errand {
     pub(crate) part: usize,
 }
 
-// How well a node would do as a successor.
-#[derive(Clone, Copy, Debug, PartialEq, Eq, PartialOrd, Ord)]
-enum Kind {
-    // A class would have to come into its label.
-    Loose,
-    // Only the node before it would have to get classes, if any.
-    Back,
-    // The kept model has it so.
-    Model,
-}
-
 // The classes that would have to come into labels: that of a successor, and that of the node before it.
 #[derive(Clone, Copy, Debug, PartialEq, Eq)]
 struct Needs {
     there: usize,
     back: usize,
+}
+
+// The best node so far, and how many classes would have to come into labels.
+#[derive(Clone, Copy, Debug, PartialEq, Eq)]
+struct Best {
+    node: Option<usize>,
+    count: usize,
 }
 
 impl Graph {
@@ -85,39 +81,69 @@ impl Graph {
         Ok(wanted)
     }
 
+    // Whether a node does well as a successor: the kept model has it so, or it has all classes that a successor has to have.
+    pub(crate) fn does_well(
+        &self,
+        rules: &Rules,
+        errand: Errand,
+        other: usize,
+    ) -> Result<bool, Memory> {
+        if self.is_refused(errand.node, errand.number, other) {
+            return Ok(false);
+        }
+        let wanted = self.wanted(rules, errand)?;
+        Ok(match self.needs(rules, errand, wanted.as_slice(), other) {
+            Some(needs) => needs.there == 0 || self.is_model(rules, errand, other),
+            None => false,
+        })
+    }
+
     // The node that does best as a successor, if one does well.
     pub(crate) fn best(&self, rules: &Rules, errand: Errand) -> Result<Option<usize>, Memory> {
         let wanted = self.wanted(rules, errand)?;
-        let mut best = None;
-        let mut most = Kind::Loose;
-        let mut least = usize::MAX;
-        for other in 0..self.nodes.len() {
-            if let Some(needs) = self.needs(rules, errand, wanted.as_slice(), other) {
-                let kind = self.kind(rules, errand, needs, other);
-                let count = needs.there.saturating_add(needs.back);
-                let is_better = kind > most || (kind == most && count < least);
-                if kind > Kind::Loose
-                    && is_better
-                    && !self.is_refused(errand.node, errand.number, other)
-                {
-                    most = kind;
-                    least = count;
-                    best = Some(other);
+        let mut best = Best {
+            node: None,
+            count: usize::MAX,
+        };
+        if let Some(from) = self.model_of(errand.node) {
+            for pair in rules.successors(errand.way, from) {
+                if rules.is_in(errand.part, pair.1) {
+                    for other in self.alike(pair.1) {
+                        self.try_one(rules, errand, wanted.as_slice(), *other, &mut best);
+                    }
                 }
             }
         }
-        Ok(best)
+        if best.node.is_none() {
+            for other in self.bearers(errand.part) {
+                if self.has_all(*other, wanted.as_slice()) {
+                    self.try_one(rules, errand, wanted.as_slice(), *other, &mut best);
+                }
+            }
+        }
+        Ok(best.node)
     }
 
-    fn kind(&self, rules: &Rules, errand: Errand, needs: Needs, other: usize) -> Kind {
-        if self.is_model(rules, errand, other) {
-            return Kind::Model;
+    // Takes a node for the best so far, if it is better.
+    fn try_one(
+        &self,
+        rules: &Rules,
+        errand: Errand,
+        wanted: &[usize],
+        other: usize,
+        best: &mut Best,
+    ) {
+        if let Some(needs) = self.needs(rules, errand, wanted, other) {
+            let count = needs.there.saturating_add(needs.back);
+            if count < best.count && !self.is_refused(errand.node, errand.number, other) {
+                best.count = count;
+                best.node = Some(other);
+            }
         }
-        if needs.there == 0 {
-            Kind::Back
-        } else {
-            Kind::Loose
-        }
+    }
+
+    fn has_all(&self, node: usize, wanted: &[usize]) -> bool {
+        wanted.iter().all(|number| self.has(node, *number))
     }
 
     // How many classes would have to come into labels; none where a complement is there.
@@ -188,16 +214,14 @@ impl Graph {
     }
 
     fn is_stood_for(&self, element: u64) -> bool {
-        self.nodes
-            .iter()
-            .any(|spot| spot.is_there && spot.model == Some(element))
+        self.alike(element).iter().any(|node| self.is_there(*node))
     }
 
     // Has a node of its own be the successor, and answers it.
     pub(crate) fn give_own(&mut self, rules: &Rules, errand: Errand) -> Result<usize, Memory> {
         let model = self.new_model(rules, errand);
         let made = self.own(errand.node, errand.number)?;
-        self.set_model(made, model);
+        self.set_model(made, model)?;
         self.make(made)?;
         let reason = [Fact::Class(errand.node, errand.number)];
         self.give(rules, errand, made, &reason)?;

@@ -10,8 +10,8 @@ use Rattle.wiki_talk.specs.declared.requests.Request.{Request}
 use Rattle.wiki_talk.specs.declared.requests.LineRequest.{LineRequest}
 use Rattle.wiki_talk.specs.declared.requests.LineRequest.TheVariants as lines
 use Rattle.wiki_talk.specs.Turns.{Exchange, answered, no_request, Turns}
-use Rattle.wiki_core.specs.State.{State}
-use Rattle.wiki_core.specs.Step.{Step}
+use Rattle.plain_wiki.specs.State.{State}
+use Rattle.plain_wiki.specs.Step.{Step}
 use Rattle.wiki_core.specs.Holding.{Holding, first_holding}
 use Rattle.wiki_core.specs.Stepping.{KeptStep}
 use Rattle.wiki_core.specs.Journaled as core
@@ -29,14 +29,14 @@ use Rattle.turning.proofs.HearingLemmas.{apt_kept}
 -- a wiki that is ready, over a grammar whose terminals are in UTF-8
 pub record IsReadyPlain (state : State) : Type 0 where
   pub ready : IsReady state
-  pub utf8 : AreUtf8 state.pages.grammar.terminals
+  pub utf8 : AreUtf8 state.stored.grammar.terminals
 
 ready_kept : (old new : State) → KeepsSessions old new → IsReadyPlain old → IsReadyPlain new
 ready_kept old new keeps plain = record {
   ready = record {
     pages =
-        subst (λ (g : GrammarParts). AreReady g new.pages.words) (sym keeps.grammar)
-        (subst (λ (words : Listed). AreReady old.pages.grammar words) (sym keeps.words) plain.ready.pages);
+        subst (λ (g : GrammarParts). AreReady g new.stored.words) (sym keeps.grammar)
+        (subst (λ (words : Listed). AreReady old.stored.grammar words) (sym keeps.words) plain.ready.stored);
     apt = apt_kept old new keeps plain.ready.apt;
     short = subst AreShortSessions (sym keeps.sessions) plain.ready.short;
   };

@@ -5,8 +5,8 @@ use Rattle.codeco_checked.specs.Sound.{IsSound}
 use Rattle.wiki_talk.specs.declared.replies.Reply.{Reply}
 use Rattle.wiki_talk.specs.declared.requests.Request.{Request}
 use Rattle.wiki_talk.specs.Turns.{Exchange, answered, no_request, Turns}
-use Rattle.wiki_core.specs.State.{first_state}
-use Rattle.wiki_core.specs.Step.{Step}
+use Rattle.plain_wiki.specs.State.{first_state}
+use Rattle.plain_wiki.specs.Step.{Step}
 use Rattle.wiki_core.specs.Holding.{Holding, first_holding}
 use Rattle.wiki_core.specs.Stepping.{KeptStep}
 use Rattle.wiki_core.specs.Journaled.{asked_of, changes_of, GivesUtf8, HasShortPlace, GivesUnraised, SpendsNone, NoneIsRaised, AreUtf8, StandAlike, FitsLine}
@@ -35,7 +35,7 @@ pub stands_again_kept : (g : GrammarParts) → IsSound g → NoneIsRaised g.term
     → Turns KeptStep (first_holding g budget) (former ++ exchanges) last → Turns KeptStep (first_holding g its_budget) again its_last
     → asked_of again ≡ asked_of former ++ changes_of exchanges → All GivesUtf8 (asked_of former) → All GivesUtf8 (asked_of exchanges)
     → All GivesUnraised (asked_of former) → All GivesUnraised (asked_of exchanges)
-    → SpendsNone former → SpendsNone exchanges → SpendsNone again → StandAlike last.state.pages its_last.state.pages
+    → SpendsNone former → SpendsNone exchanges → SpendsNone again → StandAlike last.state.stored its_last.state.stored
 stands_again_kept g sound apart budget its_budget former exchanges again last its_last turns its_turns =
     let parts = turns_part Step former exchanges (first_state g budget) last.state (plain_turns (former ++ exchanges) (first_holding g budget) last turns) in
     stands_again g sound apart budget its_budget former exchanges again parts.0 last.state its_last.state parts.1 parts.2

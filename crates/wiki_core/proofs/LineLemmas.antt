@@ -29,18 +29,22 @@ use Rattle.wiki_talk.specs.declared.statuses.Status.TheVariants.{Asserted}
 use Rattle.wiki_talk.specs.declared.replies.Reply.{Reply}
 use Rattle.wiki_talk.specs.declared.requests.Request.{Request}
 use Rattle.wiki_talk.specs.declared.requests.Request.TheVariants as requests
+use Rattle.wiki_talk.specs.declared.requests.WikiRequest.TheVariants as of_wiki
+use Rattle.wiki_talk.specs.declared.requests.WordRequest.TheVariants as of_word
+use Rattle.wiki_talk.specs.declared.requests.ArticleRequest.TheVariants as of_article
+use Rattle.wiki_talk.specs.declared.requests.SessionRequest.TheVariants as of_session
 use Rattle.wiki_talk.specs.declared.limits.Limit.TheVariants as limits
 use Rattle.wiki_talk.specs.Turns.{Exchange, answered, no_request, Turns}
-use Rattle.wiki_parts.specs.State as parts
-use Rattle.wiki_parts.specs.Words.{bad_text, bad_count, number_of, full_at, lexicon_refusal, forms_given, word_refusal}
+use Rattle.plain_wiki.specs.State.{Stored}
+use Rattle.plain_wiki.specs.Words.{bad_text, bad_count, number_of, full_at, lexicon_refusal, forms_given, word_refusal}
 use Rattle.wiki_parts.specs.Faults.{IsAbsent}
-use Rattle.wiki_parts.specs.Parsing.{tokens_of}
-use Rattle.wiki_parts.specs.Refusing.{NamesNoWord, HasNoSentenceAt, IsPastEnd, IsFullOfSentences, HasTooManyTokens, IsAtLastRevision, HasNoDerivation, reword_cause}
+use Rattle.plain_wiki.specs.Parsing.{tokens_of}
+use Rattle.plain_wiki.specs.Causes.{NamesNoWord, has_no_place, is_past_end, has_no_room, has_too_many_tokens, is_at_last_revision, has_no_derivation, reword_cause}
 use Rattle.wiki_store.specs.Step as store
-use Rattle.wiki_store.specs.Step.{with_inserted, with_replaced, sentence_with}
-use Rattle.wiki_store.specs.Appending.{with_appended}
-use Rattle.wiki_core.specs.State.{State, first_state}
-use Rattle.wiki_core.specs.Step.{Step, StepsSession}
+use Rattle.plain_wiki.specs.Doing.{with_inserted, with_replaced, sentence_with, with_appended}
+use Rattle.plain_wiki.specs.State.{State, first_state}
+use Rattle.plain_wiki.specs.Step.{Step}
+use Rattle.wiki_core.specs.Step.{StepsSession}
 use Rattle.wiki_core.specs.Journaled.{changes_by, changes_of, asked_of, GivesUtf8, GivesUnraised, NoneIsRaised, AreUtf8, HasShortPlace, IsPlainForm, ArePlainForms, IsPlainSentence, HasPlainTexts, FitsLine, ChangesFitLines}
 use Rattle.wiki_core.proofs.FormLemmas.{short_text}
 use Rattle.wiki_core.proofs.GrammarLemmas.{stays_utf8}
@@ -92,25 +96,25 @@ word_given words kind texts none utf8 = given_plain kind texts (lexicon_refusal 
 -- ---- one step
 
 -- a form of a live word
-named_plain : (old : parts.State) (form : List ℕ) (word : WordId) → AreReady old.grammar old.words → owner old.words.live form ≡ Some word → IsPlainForm form
+named_plain : (old : Stored) (form : List ℕ) (word : WordId) → AreReady old.grammar old.words → owner old.words.live form ≡ Some word → IsPlainForm form
 named_plain old form word ready named = let is = form_there old.grammar old.words ready form word named in (is.utf8, is.short)
 
-few_tokens : (old : parts.State) (text : List ℕ) → IsAbsent (HasTooManyTokens old text) → length (tokens_of old text) ≤ 40
+few_tokens : (old : Stored) (text : List ℕ) → IsAbsent (has_too_many_tokens old text) → length (tokens_of old text) ≤ 40
 few_tokens old text free = by (cases_lt 40 (length (tokens_of old text)))
   where
     by : (40 < length (tokens_of old text)) ⊎ (length (tokens_of old text) ≤ 40) → length (tokens_of old text) ≤ 40
     by (inl many) = absurd (free (full_at limits.Tokens) (record { many = many; told = refl }))
     by (inr few) = few
 
-sentence_plain : (old : parts.State) → AreReady old.grammar old.words → AreUtf8 old.grammar.terminals → (tokens : List (List ℕ)) → length tokens ≤ 40
+sentence_plain : (old : Stored) → AreReady old.grammar old.words → AreUtf8 old.grammar.terminals → (tokens : List (List ℕ)) → length tokens ≤ 40
     → IsSentence old.grammar old.words tokens → IsPlainSentence (shown old.grammar.terminals tokens)
 sentence_plain old ready terminals tokens few sentence =
     let long = shown_short old.grammar old.words ready tokens sentence in
     (shown_utf8 old.grammar old.words ready terminals tokens sentence, omega (arith, long, few))
 
 -- the place doesn't hang on the text
-same_place : (article : List ℕ) (given : Option ℕ) (text other : List ℕ) → HasShortPlace (requests.Add article given text)
-    → HasShortPlace (requests.Add article given other)
+same_place : (article : List ℕ) (given : Option ℕ) (text other : List ℕ) → HasShortPlace (requests.OnArticle article (of_article.Add given text))
+    → HasShortPlace (requests.OnArticle article (of_article.Add given other))
 same_place article None text other place = tt
 same_place article (Some at) text other place = place
 
@@ -118,61 +122,66 @@ same_place article (Some at) text other place = place
 fits : (change : Request) → HasPlainTexts change → HasShortPlace change → Each FitsLine (change ∷ [])
 fits change texts place = ((texts, place), tt)
 
-module _ (old : parts.State) (ready : AreReady old.grammar old.words) (terminals : AreUtf8 old.grammar.terminals) where
-  does_fit : (request : Request) (reply : Reply) (new : parts.State) → GivesUtf8 request → HasShortPlace request → store.IsFree old request
+module _ (old : Stored) (ready : AreReady old.grammar old.words) (terminals : AreUtf8 old.grammar.terminals) where
+  does_fit : (request : Request) (reply : Reply) (new : Stored) → GivesUtf8 request → HasShortPlace request → store.IsFree old request
       → store.Does old request reply new → Each FitsLine (changes_by request reply)
-  does_fit (requests.Word kind texts) reply new utf8 place free x =
-      subst (λ (r : Reply). Each FitsLine (changes_by (requests.Word kind texts) r)) (sym x.answer)
-      (fits (requests.Word kind texts) (word_given old.words kind texts (none_told (word_refusal old.words kind texts) free) utf8) tt)
-  does_fit (requests.Reword text texts) reply new utf8 place free x =
-      subst (λ (r : Reply). Each FitsLine (changes_by (requests.Reword text texts) r)) (sym x.answer)
-      (fits (requests.Reword text texts) (
+  does_fit (requests.OnWiki (of_wiki.Word kind texts)) reply new utf8 place free x =
+      subst (λ (r : Reply). Each FitsLine (changes_by (requests.OnWiki (of_wiki.Word kind texts)) r)) (sym x.answer)
+      (fits (requests.OnWiki (of_wiki.Word kind texts)) (word_given old.words kind texts (none_told (word_refusal old.words kind texts) free) utf8) tt)
+  does_fit (requests.OnWord text (of_word.Reword texts)) reply new utf8 place free x =
+      subst (λ (r : Reply). Each FitsLine (changes_by (requests.OnWord text (of_word.Reword texts)) r)) (sym x.answer)
+      (fits (requests.OnWord text (of_word.Reword texts)) (
         named_plain old text x.word ready x.named,
         given_plain x.forms.kind texts (lexicon_refusal old.words (reword_refusal old.words x.word (forms_given x.forms.kind texts)))
             (none_told (reword_cause old.words x.word x.forms.kind texts) (λ refusal told. not_bad_reword old text texts free refusal
             (record { word = x.word; named = x.named; old = x.forms; of_word = x.of_word; told = told }))) utf8,
       ) tt)
-  does_fit (requests.Unword text) reply new utf8 place free x =
-      subst (λ (r : Reply). Each FitsLine (changes_by (requests.Unword text) r)) (sym x.answer)
-      (fits (requests.Unword text) (named_plain old text x.word ready x.named) tt)
-  does_fit (requests.Grammar text) reply new utf8 place free x =
-      subst (λ (r : Reply). Each FitsLine (changes_by (requests.Grammar text) r)) (sym x.answer) (fits (requests.Grammar text) utf8 tt)
-  does_fit (requests.Add article given text) reply new utf8 place free x =
-      subst (λ (r : Reply). Each FitsLine (changes_by (requests.Add article given text) r)) (sym x.answer)
-      (fits (requests.Add article given (shown old.grammar.terminals (tokens_of old text))) (
+  does_fit (requests.OnWord text of_word.Unword) reply new utf8 place free x =
+      subst (λ (r : Reply). Each FitsLine (changes_by (requests.OnWord text of_word.Unword) r)) (sym x.answer)
+      (fits (requests.OnWord text of_word.Unword) (named_plain old text x.word ready x.named) tt)
+  does_fit (requests.OnWiki (of_wiki.Grammar text)) reply new utf8 place free x =
+      subst (λ (r : Reply). Each FitsLine (changes_by (requests.OnWiki (of_wiki.Grammar text)) r)) (sym x.answer)
+      (fits (requests.OnWiki (of_wiki.Grammar text)) utf8 tt)
+  does_fit (requests.OnArticle article (of_article.Add given text)) reply new utf8 place free x =
+      subst (λ (r : Reply). Each FitsLine (changes_by (requests.OnArticle article (of_article.Add given text)) r)) (sym x.answer)
+      (fits (requests.OnArticle article (of_article.Add given (shown old.grammar.terminals (tokens_of old text)))) (
         named_plain old article x.word ready x.named,
         sentence_plain old ready terminals (tokens_of old text)
-            (few_tokens old text (free_fourth (NamesNoWord old article) (IsPastEnd old article given) (IsFullOfSentences old) (HasTooManyTokens old text)
-            (IsAtLastRevision old article ∷ HasNoDerivation old text ∷ []) free))
+            (few_tokens old text (free_fourth (NamesNoWord old article) (is_past_end old article given) (has_no_room old) (has_too_many_tokens old text)
+            (is_at_last_revision old article ∷ has_no_derivation old text ∷ []) free))
             (status_sentence (with_inserted old x.word x.place (sentence_with old text Asserted)) (tokens_of old text) x.status x.gets),
       ) (same_place article given text (shown old.grammar.terminals (tokens_of old text)) place))
-  does_fit (requests.Edit article at text) reply new utf8 place free x =
-      subst (λ (r : Reply). Each FitsLine (changes_by (requests.Edit article at text) r)) (sym x.answer)
-      (fits (requests.Edit article at (shown old.grammar.terminals (tokens_of old text))) (
+  does_fit (requests.OnArticle article (of_article.Edit at text)) reply new utf8 place free x =
+      subst (λ (r : Reply). Each FitsLine (changes_by (requests.OnArticle article (of_article.Edit at text)) r)) (sym x.answer)
+      (fits (requests.OnArticle article (of_article.Edit at (shown old.grammar.terminals (tokens_of old text)))) (
         named_plain old article x.word ready x.named,
         sentence_plain old ready terminals (tokens_of old text)
-            (few_tokens old text (free_third (NamesNoWord old article) (HasNoSentenceAt old article at) (HasTooManyTokens old text)
-            (IsAtLastRevision old article ∷ HasNoDerivation old text ∷ []) free))
+            (few_tokens old text (free_third (NamesNoWord old article) (has_no_place old article at) (has_too_many_tokens old text)
+            (is_at_last_revision old article ∷ has_no_derivation old text ∷ []) free))
             (status_sentence (with_replaced old x.word at (sentence_with old text Asserted)) (tokens_of old text) x.status x.gets),
       ) place)
-  does_fit (requests.Remove article at) reply new utf8 place free x =
-      subst (λ (r : Reply). Each FitsLine (changes_by (requests.Remove article at) r)) (sym x.answer)
-      (fits (requests.Remove article at) (named_plain old article x.word ready x.named) place)
-  does_fit (requests.Retract article at) reply new utf8 place free x =
-      subst (λ (r : Reply). Each FitsLine (changes_by (requests.Retract article at) r)) (sym x.answer)
-      (fits (requests.Retract article at) (named_plain old article x.word ready x.named) place)
-  does_fit (requests.Reassert article at) reply new utf8 place free x =
-      subst (λ (r : Reply). Each FitsLine (changes_by (requests.Reassert article at) r)) (sym x.answer)
-      (fits (requests.Reassert article at) (named_plain old article x.word ready x.named) place)
-  does_fit (requests.Find text) reply new utf8 place free x = subst (λ (r : Reply). Each FitsLine (changes_by (requests.Find text) r)) (sym x.answer) tt
-  does_fit requests.Words reply new utf8 place free x = subst (λ (r : Reply). Each FitsLine (changes_by requests.Words r)) (sym x.answer) tt
-  does_fit (requests.Parse text) reply new utf8 place free x = subst (λ (r : Reply). Each FitsLine (changes_by (requests.Parse text) r)) (sym x.answer) tt
-  does_fit (requests.Read article) reply new utf8 place free x = subst (λ (r : Reply). Each FitsLine (changes_by (requests.Read article) r)) (sym x.answer) tt
-  does_fit (requests.Axioms article at) reply new utf8 place free x =
-      subst (λ (r : Reply). Each FitsLine (changes_by (requests.Axioms article at) r)) (sym x.answer) tt
+  does_fit (requests.OnArticle article (of_article.Remove at)) reply new utf8 place free x =
+      subst (λ (r : Reply). Each FitsLine (changes_by (requests.OnArticle article (of_article.Remove at)) r)) (sym x.answer)
+      (fits (requests.OnArticle article (of_article.Remove at)) (named_plain old article x.word ready x.named) place)
+  does_fit (requests.OnArticle article (of_article.Retract at)) reply new utf8 place free x =
+      subst (λ (r : Reply). Each FitsLine (changes_by (requests.OnArticle article (of_article.Retract at)) r)) (sym x.answer)
+      (fits (requests.OnArticle article (of_article.Retract at)) (named_plain old article x.word ready x.named) place)
+  does_fit (requests.OnArticle article (of_article.Reassert at)) reply new utf8 place free x =
+      subst (λ (r : Reply). Each FitsLine (changes_by (requests.OnArticle article (of_article.Reassert at)) r)) (sym x.answer)
+      (fits (requests.OnArticle article (of_article.Reassert at)) (named_plain old article x.word ready x.named) place)
+  does_fit (requests.OnWord text of_word.Find) reply new utf8 place free x =
+      subst (λ (r : Reply). Each FitsLine (changes_by (requests.OnWord text of_word.Find) r)) (sym x.answer) tt
+  does_fit (requests.OnWiki of_wiki.Words) reply new utf8 place free x =
+      subst (λ (r : Reply). Each FitsLine (changes_by (requests.OnWiki of_wiki.Words) r)) (sym x.answer) tt
+  does_fit (requests.OnWiki (of_wiki.Parse text)) reply new utf8 place free x =
+      subst (λ (r : Reply). Each FitsLine (changes_by (requests.OnWiki (of_wiki.Parse text)) r)) (sym x.answer) tt
+  does_fit (requests.OnArticle article of_article.Read) reply new utf8 place free x =
+      subst (λ (r : Reply). Each FitsLine (changes_by (requests.OnArticle article of_article.Read) r)) (sym x.answer) tt
+  does_fit (requests.OnArticle article (of_article.Axioms at)) reply new utf8 place free x =
+      subst (λ (r : Reply). Each FitsLine (changes_by (requests.OnArticle article (of_article.Axioms at)) r)) (sym x.answer) tt
   does_fit request reply new utf8 place free x = absurd x
 
-  pages_fit : (request : Request) (reply : Reply) (new : parts.State) → GivesUtf8 request → HasShortPlace request → store.Step old request reply new
+  pages_fit : (request : Request) (reply : Reply) (new : Stored) → GivesUtf8 request → HasShortPlace request → store.Step old request reply new
       → Each FitsLine (changes_by request reply)
   pages_fit request reply new utf8 place step = by (one.outcome old request reply new step)
     where
@@ -180,24 +189,28 @@ module _ (old : parts.State) (ready : AreReady old.grammar old.words) (terminals
       by (inl refused) = subst (λ (r : Reply). Each FitsLine (changes_by request r)) (sym refused.1) tt
       by (inr done) = does_fit request reply new utf8 place done.0 done.1
 
-module _ (old : State) (ready : IsReady old) (terminals : AreUtf8 old.pages.grammar.terminals) (reply : Reply) (new : State) where
+module _ (old : State) (ready : IsReady old) (terminals : AreUtf8 old.stored.grammar.terminals) (reply : Reply) (new : State) where
   session_does : (request : Request) → whole.IsDone old request reply new → Each FitsLine (changes_by request reply)
-  session_does (requests.Begin article) (free, x) = subst (λ (r : Reply). Each FitsLine (changes_by (requests.Begin article) r)) (sym x.answer) tt
-  session_does (requests.Put session text) (free, x) =
-      subst (λ (r : Reply). Each FitsLine (changes_by (requests.Put session text) r)) (sym x.answer) tt
-  session_does (requests.Back session) (free, x) = subst (λ (r : Reply). Each FitsLine (changes_by (requests.Back session) r)) (sym x.answer) tt
-  session_does (requests.Menu session) (free, x) = subst (λ (r : Reply). Each FitsLine (changes_by (requests.Menu session) r)) (sym x.tells.answer) tt
-  session_does (requests.Commit session) (free, x) =
-      subst (λ (r : Reply). Each FitsLine (changes_by (requests.Commit session) r)) (sym x.answer)
-      (fits (requests.Add x.form None (shown old.pages.grammar.terminals x.session.tokens)) (
-        named_plain old.pages x.form x.session.article ready.pages
-            (canonical_owner old.pages.words.terminals old.pages.words.live ready.pages.readable x.session.article x.form x.spelled),
-        sentence_plain old.pages ready.pages terminals x.session.tokens (session_short old.sessions _ x.session ready.short x.named)
-            (status_sentence (with_appended old.pages x.session.article x.session.tokens Asserted) x.session.tokens x.status x.gets),
+  session_does (requests.OnArticle article of_article.Open) (free, x) =
+      subst (λ (r : Reply). Each FitsLine (changes_by (requests.OnArticle article of_article.Open) r)) (sym x.answer) tt
+  session_does (requests.OnSession session (of_session.Type text)) (free, x) =
+      subst (λ (r : Reply). Each FitsLine (changes_by (requests.OnSession session (of_session.Type text)) r)) (sym x.answer) tt
+  session_does (requests.OnSession session of_session.Back) (free, x) =
+      subst (λ (r : Reply). Each FitsLine (changes_by (requests.OnSession session of_session.Back) r)) (sym x.answer) tt
+  session_does (requests.OnSession session of_session.Menu) (free, x) =
+      subst (λ (r : Reply). Each FitsLine (changes_by (requests.OnSession session of_session.Menu) r)) (sym x.tells.answer) tt
+  session_does (requests.OnSession session of_session.Commit) (free, x) =
+      subst (λ (r : Reply). Each FitsLine (changes_by (requests.OnSession session of_session.Commit) r)) (sym x.answer)
+      (fits (requests.OnArticle x.form (of_article.Add None (shown old.stored.grammar.terminals x.session.tokens))) (
+        named_plain old.stored x.form x.session.article ready.stored
+            (canonical_owner old.stored.words.terminals old.stored.words.live ready.stored.readable x.session.article x.form x.spelled),
+        sentence_plain old.stored ready.stored terminals x.session.tokens (session_short old.sessions _ x.session ready.short x.named)
+            (status_sentence (with_appended old.stored x.session.article x.session.tokens Asserted) x.session.tokens x.status x.gets),
       ) tt)
-  session_does (requests.Refresh session) (free, x) =
-      subst (λ (r : Reply). Each FitsLine (changes_by (requests.Refresh session) r)) (sym x.answer) tt
-  session_does (requests.Drop session) (free, x) = subst (λ (r : Reply). Each FitsLine (changes_by (requests.Drop session) r)) (sym x.answer) tt
+  session_does (requests.OnSession session of_session.Refresh) (free, x) =
+      subst (λ (r : Reply). Each FitsLine (changes_by (requests.OnSession session of_session.Refresh) r)) (sym x.answer) tt
+  session_does (requests.OnSession session of_session.Drop) (free, x) =
+      subst (λ (r : Reply). Each FitsLine (changes_by (requests.OnSession session of_session.Drop) r)) (sym x.answer) tt
   session_does request (free, x) = absurd x
 
   session_steps : (request : Request) → StepsSession old request reply new → Each FitsLine (changes_by request reply)
@@ -209,14 +222,14 @@ module _ (old : State) (ready : IsReady old) (terminals : AreUtf8 old.pages.gram
 
   -- the change of a step fits a line
   pub step_fits : (request : Request) → GivesUtf8 request → HasShortPlace request → Step old request reply new → Each FitsLine (changes_by request reply)
-  step_fits (requests.Begin article) utf8 place step = session_steps (requests.Begin article) step
-  step_fits (requests.Put session text) utf8 place step = session_steps (requests.Put session text) step
-  step_fits (requests.Back session) utf8 place step = session_steps (requests.Back session) step
-  step_fits (requests.Menu session) utf8 place step = session_steps (requests.Menu session) step
-  step_fits (requests.Commit session) utf8 place step = session_steps (requests.Commit session) step
-  step_fits (requests.Refresh session) utf8 place step = session_steps (requests.Refresh session) step
-  step_fits (requests.Drop session) utf8 place step = session_steps (requests.Drop session) step
-  step_fits request utf8 place step = pages_fit old.pages ready.pages terminals request reply new.pages utf8 place step.pages
+  step_fits (requests.OnArticle article of_article.Open) utf8 place step = session_steps (requests.OnArticle article of_article.Open) step
+  step_fits (requests.OnSession session (of_session.Type text)) utf8 place step = session_steps (requests.OnSession session (of_session.Type text)) step
+  step_fits (requests.OnSession session of_session.Back) utf8 place step = session_steps (requests.OnSession session of_session.Back) step
+  step_fits (requests.OnSession session of_session.Menu) utf8 place step = session_steps (requests.OnSession session of_session.Menu) step
+  step_fits (requests.OnSession session of_session.Commit) utf8 place step = session_steps (requests.OnSession session of_session.Commit) step
+  step_fits (requests.OnSession session of_session.Refresh) utf8 place step = session_steps (requests.OnSession session of_session.Refresh) step
+  step_fits (requests.OnSession session of_session.Drop) utf8 place step = session_steps (requests.OnSession session of_session.Drop) step
+  step_fits request utf8 place step = pages_fit old.stored ready.stored terminals request reply new.stored utf8 place step.stored
 
 -- ---- runs
 
@@ -224,12 +237,12 @@ pub all_from_each : (requests : List Request) → Each FitsLine requests → All
 all_from_each [] each = All-nil FitsLine
 all_from_each (request ∷ requests) each = All-cons FitsLine request requests each.0 (all_from_each requests each.1)
 
-run_fits : (exchanges : List (Exchange Request Reply)) (first last : State) → IsReady first → AreUtf8 first.pages.grammar.terminals
+run_fits : (exchanges : List (Exchange Request Reply)) (first last : State) → IsReady first → AreUtf8 first.stored.grammar.terminals
     → Turns Step first exchanges last → All GivesUtf8 (asked_of exchanges) → All GivesUnraised (asked_of exchanges) → All HasShortPlace (asked_of exchanges)
     → All FitsLine (changes_of exchanges)
 run_fits [] first last ready terminals turns utf8 unraised places = All-nil FitsLine
 run_fits (no_request ∷ exchanges) first last ready terminals (next, is, turns) utf8 unraised places =
-    run_fits exchanges next last (subst IsReady (sym is) ready) (subst (λ (s : State). AreUtf8 s.pages.grammar.terminals) (sym is) terminals) turns
+    run_fits exchanges next last (subst IsReady (sym is) ready) (subst (λ (s : State). AreUtf8 s.stored.grammar.terminals) (sym is) terminals) turns
     utf8 unraised places
 run_fits (answered request reply ∷ exchanges) first last ready terminals (next, step, turns) utf8 unraised places =
     let own_utf8 = All-head GivesUtf8 request (asked_of exchanges) utf8 in

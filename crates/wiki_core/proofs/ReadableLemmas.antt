@@ -24,8 +24,8 @@ use Rattle.lexicon.proofs.Owners.{owner_lives, owner-add_refusal, add_refusal_na
 use Rattle.derivations.specs.Among.{Among}
 use Rattle.derivations.proofs.GrowLemmas.{Each}
 use Rattle.wiki_talk.specs.declared.refusals.Refusal.TheVariants.{Taken, Reserved}
-use Rattle.wiki_parts.specs.Words.{canonical, bad_text, bad_count, lexicon_refusal, full_refusal, forms_given, word_refusal}
-use Rattle.wiki_parts.specs.Refusing.{reword_cause}
+use Rattle.plain_wiki.specs.Words.{canonical, bad_text, bad_count, lexicon_refusal, full_refusal, forms_given, word_refusal}
+use Rattle.plain_wiki.specs.Causes.{reword_cause}
 use Rattle.wiki_store.proofs.RewordLemmas.{forms_free, taken_lives, reword_names_none, lives_by}
 use Rattle.wiki_core.proofs.FormLemmas.{IsForm, each_among, forms_of_texts}
 

@@ -11,22 +11,29 @@ use Rattle.codeco_checked.specs.Sound.{IsSound}
 use Rattle.codeco_reader.proofs.OneGrammar.{text_sound}
 use Rattle.lexicon.specs.Words.{Listed, with_word, with_forms, without_word, with_terminals, reground_refusal}
 use Rattle.editor.specs.Editing.{typed}
-use Rattle.sessions.specs.Sessions.{PlainSession, new_session, has_number, session_of, is_on, with_change, with_tokens, with_revision, AreRebased}
+use Rattle.plain_wiki.specs.Sessions.{PlainSession, new_session, has_number, session_of, is_on, with_change, with_tokens, with_revision, AreRebased}
 use Rattle.wiki_talk.specs.declared.replies.Reply.{Reply}
 use Rattle.wiki_talk.specs.declared.requests.Request.{Request}
 use Rattle.wiki_talk.specs.declared.requests.Request.TheVariants as requests
+use Rattle.wiki_talk.specs.declared.requests.WikiRequest.TheVariants as of_wiki
+use Rattle.wiki_talk.specs.declared.requests.WordRequest.TheVariants as of_word
+use Rattle.wiki_talk.specs.declared.requests.ArticleRequest.TheVariants as of_article
+use Rattle.wiki_talk.specs.declared.requests.SessionRequest.TheVariants as of_session
 use Rattle.wiki_talk.specs.declared.limits.Limit.TheVariants as limits
 use Rattle.wiki_talk.specs.Turns.{Exchange, answered, no_request, Turns}
-use Rattle.wiki_parts.specs.State as parts
-use Rattle.wiki_parts.specs.Words.{forms_given, full_at, word_refusal, lexicon_refusal}
+use Rattle.plain_wiki.specs.State.{Stored}
+use Rattle.plain_wiki.specs.Words.{forms_given, full_at, word_refusal, lexicon_refusal}
 use Rattle.wiki_parts.specs.Faults.{IsAbsent}
-use Rattle.wiki_parts.specs.Refusing.{FirstOf, NamesNoWord, IsBadReword, BreaksSentence, IsNoGrammar, IsBare, HasForm, BreaksByGrammar, reword_cause}
+use Rattle.plain_wiki.specs.Causes.{FirstOf, NamesNoWord, is_bad_reword, breaks_by_forms, is_no_grammar, is_bare, has_a_form, breaks_by_grammar, reword_cause}
 use Rattle.wiki_store.specs.Step as store
 use Rattle.wiki_store.specs.Step.{asks_store}
 use Rattle.derivations.proofs.GrowLemmas.{Each}
-use Rattle.wiki_core.specs.State.{State, first_state}
-use Rattle.wiki_core.specs.Causes.{session_numbered}
-use Rattle.wiki_core.specs.Step.{Step, StepsPages, StepsSession, CarriesSessions, EndOnArticle, IsFree, begun_again, numbered}
+use Rattle.plain_wiki.specs.State.{State, first_state}
+use Rattle.plain_wiki.specs.Places.{session_numbered, numbered}
+use Rattle.plain_wiki.specs.Step.{Step}
+use Rattle.wiki_core.specs.Step.{StepsPages, StepsSession, CarriesSessions, EndOnArticle}
+use Rattle.plain_wiki.specs.Against.{IsFree}
+use Rattle.plain_wiki.specs.Doing.{begun_again}
 use Rattle.wiki_core.specs.Journaled.{changes_of, asked_of, tells_spent, is_spent_in, SpendsNone, GivesUtf8, GivesUnraised, NoneIsRaised, StandAlike, StandsAgain}
 use Rattle.wiki_core.proofs.SeenLemmas.{RiseTo}
 use Rattle.wiki_core.proofs.RunLemmas.{IsApt}
@@ -47,12 +54,12 @@ none_told None never = refl
 none_told (Some x) never = absurd (never x refl)
 
 -- words that stay as they are
-same_words : (old new : parts.State) → AreReady old.grammar old.words → new.grammar ≡ old.grammar → new.words ≡ old.words → AreReady new.grammar new.words
+same_words : (old new : Stored) → AreReady old.grammar old.words → new.grammar ≡ old.grammar → new.words ≡ old.words → AreReady new.grammar new.words
 same_words old new ready grammar words =
     subst (λ (g : GrammarParts). AreReady g new.words) (sym grammar) (subst (λ (w : Listed). AreReady old.grammar w) (sym words) ready)
 
 -- words that are made of those
-other_words : (old new : parts.State) (words : Listed) → AreReady old.grammar old.words → new.grammar ≡ old.grammar → new.words ≡ words
+other_words : (old new : Stored) (words : Listed) → AreReady old.grammar old.words → new.grammar ≡ old.grammar → new.words ≡ words
     → words.terminals ≡ old.words.terminals → AreReadable old.words.terminals words.live → AreReady new.grammar new.words
 other_words old new words ready grammar is terminals readable =
     subst (λ (g : GrammarParts). AreReady g new.words) (sym grammar) (subst (λ (w : Listed). AreReady old.grammar w) (sym is) (record {
@@ -62,29 +69,29 @@ other_words old new words ready grammar is terminals readable =
       readable = subst (λ (ts : List (List ℕ)). AreReadable ts words.live) (sym terminals) readable;
     }))
 
-pub not_bad_reword : (old : parts.State) (text : List ℕ) (texts : List (List ℕ)) → IsAbsent (FirstOf (NamesNoWord old text ∷ IsBadReword old text texts
-    ∷ BreaksSentence old text texts ∷ [])) → IsAbsent (IsBadReword old text texts)
+pub not_bad_reword : (old : Stored) (text : List ℕ) (texts : List (List ℕ)) → IsAbsent (FirstOf (NamesNoWord old text ∷ is_bad_reword old text texts
+    ∷ breaks_by_forms old text texts ∷ [])) → IsAbsent (is_bad_reword old text texts)
 not_bad_reword old text texts free refusal bad = free refusal (inr (λ other h. free other (inl h), inl bad))
 
-does_ready : (old : parts.State) (request : Request) (reply : Reply) (new : parts.State) → AreReady old.grammar old.words → GivesUtf8 request
+does_ready : (old : Stored) (request : Request) (reply : Reply) (new : Stored) → AreReady old.grammar old.words → GivesUtf8 request
     → GivesUnraised request → store.IsFree old request → store.Does old request reply new → AreReady new.grammar new.words
-does_ready old (requests.Word kind texts) reply new ready utf8 unraised free x =
-    other_words old new (with_word old.words (forms_given kind texts)) ready (ap (λ (p : parts.State). p.grammar) x.after)
-    (ap (λ (p : parts.State). p.words) x.after) refl
+does_ready old (requests.OnWiki (of_wiki.Word kind texts)) reply new ready utf8 unraised free x =
+    other_words old new (with_word old.words (forms_given kind texts)) ready (ap (λ (p : Stored). p.grammar) x.after)
+    (ap (λ (p : Stored). p.words) x.after) refl
     (readable_word old.words kind texts utf8 (none_told (word_refusal old.words kind texts) free) ready.readable)
-does_ready old (requests.Reword text texts) reply new ready utf8 unraised free x =
-    other_words old new (with_forms old.words x.word (forms_given x.forms.kind texts)) ready (ap (λ (p : parts.State). p.grammar) x.after)
-    (ap (λ (p : parts.State). p.words) x.after) refl
+does_ready old (requests.OnWord text (of_word.Reword texts)) reply new ready utf8 unraised free x =
+    other_words old new (with_forms old.words x.word (forms_given x.forms.kind texts)) ready (ap (λ (p : Stored). p.grammar) x.after)
+    (ap (λ (p : Stored). p.words) x.after) refl
     (readable_reword old.words x.word x.forms texts x.of_word utf8
     (none_told (reword_cause old.words x.word x.forms.kind texts) (λ refusal told. not_bad_reword old text texts free refusal
     (record { word = x.word; named = x.named; old = x.forms; of_word = x.of_word; told = told }))) ready.readable)
-does_ready old (requests.Unword text) reply new ready utf8 unraised free x =
-    other_words old new (without_word old.words x.word) ready (ap (λ (p : parts.State). p.grammar) x.after) (ap (λ (p : parts.State). p.words) x.after) refl
+does_ready old (requests.OnWord text of_word.Unword) reply new ready utf8 unraised free x =
+    other_words old new (without_word old.words x.word) ready (ap (λ (p : Stored). p.grammar) x.after) (ap (λ (p : Stored). p.words) x.after) refl
     (readable_without old.words.terminals old.words.live x.word ready.readable)
-does_ready old (requests.Grammar text) reply new ready utf8 unraised free x =
+does_ready old (requests.OnWiki (of_wiki.Grammar text)) reply new ready utf8 unraised free x =
     let none : lexicon_refusal old.words (reground_refusal old.words.live x.g.terminals) ≡ None =
     none_told (lexicon_refusal old.words (reground_refusal old.words.live x.g.terminals)) (λ refusal told.
-    free_third (IsNoGrammar text) (IsBare text) (HasForm old text) (BreaksByGrammar old text ∷ []) free refusal
+    free_third (is_no_grammar text) (is_bare text) (has_a_form old text) (breaks_by_grammar old text ∷ []) free refusal
     (record { g = x.g; is = x.is; told = told })) in
     let ready_after : AreReady x.g (with_terminals old.words x.g.terminals) = record {
       sound = text_sound text x.g x.is;
@@ -92,35 +99,35 @@ does_ready old (requests.Grammar text) reply new ready utf8 unraised free x =
       terminals = refl;
       readable = readable_beside old.words x.g.terminals none ready.readable;
     } in
-    subst (λ (p : parts.State). AreReady p.grammar p.words) (sym x.after) ready_after
-does_ready old (requests.Find text) reply new ready utf8 unraised free x =
-    same_words old new ready (ap (λ (p : parts.State). p.grammar) x.after) (ap (λ (p : parts.State). p.words) x.after)
-does_ready old requests.Words reply new ready utf8 unraised free x =
-    same_words old new ready (ap (λ (p : parts.State). p.grammar) x.after) (ap (λ (p : parts.State). p.words) x.after)
-does_ready old (requests.Parse text) reply new ready utf8 unraised free x =
-    same_words old new ready (ap (λ (p : parts.State). p.grammar) x.after) (ap (λ (p : parts.State). p.words) x.after)
-does_ready old (requests.Add article given text) reply new ready utf8 unraised free x =
-    same_words old new ready (ap (λ (p : parts.State). p.grammar) x.after) (ap (λ (p : parts.State). p.words) x.after)
-does_ready old (requests.Edit article place text) reply new ready utf8 unraised free x =
-    same_words old new ready (ap (λ (p : parts.State). p.grammar) x.after) (ap (λ (p : parts.State). p.words) x.after)
-does_ready old (requests.Remove article place) reply new ready utf8 unraised free x =
-    same_words old new ready (ap (λ (p : parts.State). p.grammar) x.after) (ap (λ (p : parts.State). p.words) x.after)
-does_ready old (requests.Retract article place) reply new ready utf8 unraised free x =
-    same_words old new ready (ap (λ (p : parts.State). p.grammar) x.after) (ap (λ (p : parts.State). p.words) x.after)
-does_ready old (requests.Reassert article place) reply new ready utf8 unraised free x =
-    same_words old new ready (ap (λ (p : parts.State). p.grammar) x.after) (ap (λ (p : parts.State). p.words) x.after)
-does_ready old (requests.Read article) reply new ready utf8 unraised free x =
-    same_words old new ready (ap (λ (p : parts.State). p.grammar) x.after) (ap (λ (p : parts.State). p.words) x.after)
-does_ready old (requests.Axioms article place) reply new ready utf8 unraised free x =
-    same_words old new ready (ap (λ (p : parts.State). p.grammar) x.after) (ap (λ (p : parts.State). p.words) x.after)
+    subst (λ (p : Stored). AreReady p.grammar p.words) (sym x.after) ready_after
+does_ready old (requests.OnWord text of_word.Find) reply new ready utf8 unraised free x =
+    same_words old new ready (ap (λ (p : Stored). p.grammar) x.after) (ap (λ (p : Stored). p.words) x.after)
+does_ready old (requests.OnWiki of_wiki.Words) reply new ready utf8 unraised free x =
+    same_words old new ready (ap (λ (p : Stored). p.grammar) x.after) (ap (λ (p : Stored). p.words) x.after)
+does_ready old (requests.OnWiki (of_wiki.Parse text)) reply new ready utf8 unraised free x =
+    same_words old new ready (ap (λ (p : Stored). p.grammar) x.after) (ap (λ (p : Stored). p.words) x.after)
+does_ready old (requests.OnArticle article (of_article.Add given text)) reply new ready utf8 unraised free x =
+    same_words old new ready (ap (λ (p : Stored). p.grammar) x.after) (ap (λ (p : Stored). p.words) x.after)
+does_ready old (requests.OnArticle article (of_article.Edit place text)) reply new ready utf8 unraised free x =
+    same_words old new ready (ap (λ (p : Stored). p.grammar) x.after) (ap (λ (p : Stored). p.words) x.after)
+does_ready old (requests.OnArticle article (of_article.Remove place)) reply new ready utf8 unraised free x =
+    same_words old new ready (ap (λ (p : Stored). p.grammar) x.after) (ap (λ (p : Stored). p.words) x.after)
+does_ready old (requests.OnArticle article (of_article.Retract place)) reply new ready utf8 unraised free x =
+    same_words old new ready (ap (λ (p : Stored). p.grammar) x.after) (ap (λ (p : Stored). p.words) x.after)
+does_ready old (requests.OnArticle article (of_article.Reassert place)) reply new ready utf8 unraised free x =
+    same_words old new ready (ap (λ (p : Stored). p.grammar) x.after) (ap (λ (p : Stored). p.words) x.after)
+does_ready old (requests.OnArticle article of_article.Read) reply new ready utf8 unraised free x =
+    same_words old new ready (ap (λ (p : Stored). p.grammar) x.after) (ap (λ (p : Stored). p.words) x.after)
+does_ready old (requests.OnArticle article (of_article.Axioms place)) reply new ready utf8 unraised free x =
+    same_words old new ready (ap (λ (p : Stored). p.grammar) x.after) (ap (λ (p : Stored). p.words) x.after)
 does_ready old request reply new ready utf8 unraised free x = absurd x
 
-pages_ready : (old : parts.State) (request : Request) (reply : Reply) (new : parts.State) → AreReady old.grammar old.words → GivesUtf8 request
+pages_ready : (old : Stored) (request : Request) (reply : Reply) (new : Stored) → AreReady old.grammar old.words → GivesUtf8 request
     → GivesUnraised request → store.Step old request reply new → AreReady new.grammar new.words
 pages_ready old request reply new ready utf8 unraised step = by (one.outcome old request reply new step)
   where
     by : one.IsRefused old request reply new ⊎ one.IsDone old request reply new → AreReady new.grammar new.words
-    by (inl refused) = subst (λ (p : parts.State). AreReady p.grammar p.words) (sym refused.3) ready
+    by (inl refused) = subst (λ (p : Stored). AreReady p.grammar p.words) (sym refused.3) ready
     by (inr done) = does_ready old request reply new ready utf8 unraised done.0 done.1
 
 -- ---- sessions stay short
@@ -211,7 +218,7 @@ take_less xs n = let same = length-take n xs in omega (arith, same)
 
 -- What a wiki shows is read as it was; its sessions' numbers rise, and each session has at most 40 tokens.
 pub record IsReady (state : State) : Type 0 where
-  pub pages : AreReady state.pages.grammar state.pages.words
+  pub pages : AreReady state.stored.grammar state.stored.words
   pub apt : IsApt state
   pub short : AreShortSessions state.sessions
 
@@ -221,79 +228,88 @@ module _ (old new : State) (reply : Reply) (ready : IsReady old) where
   kept_short same = subst AreShortSessions (sym same) ready.short
 
   -- sessions over requests on words and sentences
-  carried_short : (request : Request) → store.Step old.pages request reply new.pages → CarriesSessions old request reply new → AreShortSessions new.sessions
-  carried_short (requests.Word kind forms) step carries = by (one.outcome old.pages (requests.Word kind forms) reply new.pages step)
+  carried_short : (request : Request) → store.Step old.stored request reply new.stored → CarriesSessions old request reply new → AreShortSessions new.sessions
+  carried_short (requests.OnWiki (of_wiki.Word kind forms)) step carries =
+      by (one.outcome old.stored (requests.OnWiki (of_wiki.Word kind forms)) reply new.stored step)
     where
-      by : one.IsRefused old.pages (requests.Word kind forms) reply new.pages ⊎ one.IsDone old.pages (requests.Word kind forms) reply new.pages
+      by : one.IsRefused old.stored (requests.OnWiki (of_wiki.Word kind forms)) reply new.stored
+          ⊎ one.IsDone old.stored (requests.OnWiki (of_wiki.Word kind forms)) reply new.stored
           → AreShortSessions new.sessions
       by (inl refused) = kept_short
-          (subst (λ (r : Reply). CarriesSessions old (requests.Word kind forms) r new) refused.1 carries)
-      by (inr done) = short_rebased new.pages.grammar new.pages.words old.sessions new.sessions
-          (subst (λ (r : Reply). CarriesSessions old (requests.Word kind forms) r new) done.1.answer carries) ready.short
-  carried_short (requests.Reword form forms) step carries = by (one.outcome old.pages (requests.Reword form forms) reply new.pages step)
+          (subst (λ (r : Reply). CarriesSessions old (requests.OnWiki (of_wiki.Word kind forms)) r new) refused.1 carries)
+      by (inr done) = short_rebased new.stored.grammar new.stored.words old.sessions new.sessions
+          (subst (λ (r : Reply). CarriesSessions old (requests.OnWiki (of_wiki.Word kind forms)) r new) done.1.answer carries) ready.short
+  carried_short (requests.OnWord form (of_word.Reword forms)) step carries =
+      by (one.outcome old.stored (requests.OnWord form (of_word.Reword forms)) reply new.stored step)
     where
-      by : one.IsRefused old.pages (requests.Reword form forms) reply new.pages ⊎ one.IsDone old.pages (requests.Reword form forms) reply new.pages
+      by : one.IsRefused old.stored (requests.OnWord form (of_word.Reword forms)) reply new.stored
+          ⊎ one.IsDone old.stored (requests.OnWord form (of_word.Reword forms)) reply new.stored
           → AreShortSessions new.sessions
       by (inl refused) = kept_short
-          (subst (λ (r : Reply). CarriesSessions old (requests.Reword form forms) r new) refused.1 carries)
-      by (inr done) = short_rebased new.pages.grammar new.pages.words old.sessions new.sessions
-          (subst (λ (r : Reply). CarriesSessions old (requests.Reword form forms) r new) done.1.answer carries) ready.short
-  carried_short (requests.Grammar text) step carries = by (one.outcome old.pages (requests.Grammar text) reply new.pages step)
+          (subst (λ (r : Reply). CarriesSessions old (requests.OnWord form (of_word.Reword forms)) r new) refused.1 carries)
+      by (inr done) = short_rebased new.stored.grammar new.stored.words old.sessions new.sessions
+          (subst (λ (r : Reply). CarriesSessions old (requests.OnWord form (of_word.Reword forms)) r new) done.1.answer carries) ready.short
+  carried_short (requests.OnWiki (of_wiki.Grammar text)) step carries =
+      by (one.outcome old.stored (requests.OnWiki (of_wiki.Grammar text)) reply new.stored step)
     where
-      by : one.IsRefused old.pages (requests.Grammar text) reply new.pages ⊎ one.IsDone old.pages (requests.Grammar text) reply new.pages
+      by : one.IsRefused old.stored (requests.OnWiki (of_wiki.Grammar text)) reply new.stored
+          ⊎ one.IsDone old.stored (requests.OnWiki (of_wiki.Grammar text)) reply new.stored
           → AreShortSessions new.sessions
       by (inl refused) = kept_short
-          (subst (λ (r : Reply). CarriesSessions old (requests.Grammar text) r new) refused.1 carries)
-      by (inr done) = short_rebased new.pages.grammar new.pages.words old.sessions new.sessions
-          (subst (λ (r : Reply). CarriesSessions old (requests.Grammar text) r new) done.1.answer carries) ready.short
-  carried_short (requests.Unword form) step carries = by (one.outcome old.pages (requests.Unword form) reply new.pages step)
+          (subst (λ (r : Reply). CarriesSessions old (requests.OnWiki (of_wiki.Grammar text)) r new) refused.1 carries)
+      by (inr done) = short_rebased new.stored.grammar new.stored.words old.sessions new.sessions
+          (subst (λ (r : Reply). CarriesSessions old (requests.OnWiki (of_wiki.Grammar text)) r new) done.1.answer carries) ready.short
+  carried_short (requests.OnWord form of_word.Unword) step carries = by (one.outcome old.stored (requests.OnWord form of_word.Unword) reply new.stored step)
     where
-      by : one.IsRefused old.pages (requests.Unword form) reply new.pages ⊎ one.IsDone old.pages (requests.Unword form) reply new.pages
+      by : one.IsRefused old.stored (requests.OnWord form of_word.Unword) reply new.stored
+          ⊎ one.IsDone old.stored (requests.OnWord form of_word.Unword) reply new.stored
           → AreShortSessions new.sessions
       by (inl refused) = kept_short
-          (subst (λ (r : Reply). CarriesSessions old (requests.Unword form) r new) refused.1 carries)
+          (subst (λ (r : Reply). CarriesSessions old (requests.OnWord form of_word.Unword) r new) refused.1 carries)
       by (inr done) =
-          let ended : EndOnArticle old form new = subst (λ (r : Reply). CarriesSessions old (requests.Unword form) r new) done.1.answer carries in
+          let ended : EndOnArticle old form new =
+          subst (λ (r : Reply). CarriesSessions old (requests.OnWord form of_word.Unword) r new) done.1.answer carries in
           subst AreShortSessions (sym ended.ended)
           (short_filter (λ s. not (is_on ended.word s)) ended.rebased
-          (short_rebased new.pages.grammar new.pages.words old.sessions ended.rebased ended.rebases ready.short))
-  carried_short (requests.Find word) step carries = kept_short carries
-  carried_short requests.Words step carries = kept_short carries
-  carried_short (requests.Parse text) step carries = kept_short carries
-  carried_short (requests.Add article given text) step carries = kept_short carries
-  carried_short (requests.Edit article place text) step carries = kept_short carries
-  carried_short (requests.Remove article place) step carries = kept_short carries
-  carried_short (requests.Retract article place) step carries = kept_short carries
-  carried_short (requests.Reassert article place) step carries = kept_short carries
-  carried_short (requests.Read article) step carries = kept_short carries
-  carried_short (requests.Axioms article place) step carries = kept_short carries
-  carried_short (requests.Begin article) step carries = kept_short carries
-  carried_short (requests.Put session text) step carries = kept_short carries
-  carried_short (requests.Back session) step carries = kept_short carries
-  carried_short (requests.Menu session) step carries = kept_short carries
-  carried_short (requests.Commit session) step carries = kept_short carries
-  carried_short (requests.Refresh session) step carries = kept_short carries
-  carried_short (requests.Drop session) step carries = kept_short carries
+          (short_rebased new.stored.grammar new.stored.words old.sessions ended.rebased ended.rebases ready.short))
+  carried_short (requests.OnWord word of_word.Find) step carries = kept_short carries
+  carried_short (requests.OnWiki of_wiki.Words) step carries = kept_short carries
+  carried_short (requests.OnWiki (of_wiki.Parse text)) step carries = kept_short carries
+  carried_short (requests.OnArticle article (of_article.Add given text)) step carries = kept_short carries
+  carried_short (requests.OnArticle article (of_article.Edit place text)) step carries = kept_short carries
+  carried_short (requests.OnArticle article (of_article.Remove place)) step carries = kept_short carries
+  carried_short (requests.OnArticle article (of_article.Retract place)) step carries = kept_short carries
+  carried_short (requests.OnArticle article (of_article.Reassert place)) step carries = kept_short carries
+  carried_short (requests.OnArticle article of_article.Read) step carries = kept_short carries
+  carried_short (requests.OnArticle article (of_article.Axioms place)) step carries = kept_short carries
+  carried_short (requests.OnArticle article of_article.Open) step carries = kept_short carries
+  carried_short (requests.OnSession session (of_session.Type text)) step carries = kept_short carries
+  carried_short (requests.OnSession session of_session.Back) step carries = kept_short carries
+  carried_short (requests.OnSession session of_session.Menu) step carries = kept_short carries
+  carried_short (requests.OnSession session of_session.Commit) step carries = kept_short carries
+  carried_short (requests.OnSession session of_session.Refresh) step carries = kept_short carries
+  carried_short (requests.OnSession session of_session.Drop) step carries = kept_short carries
 
   -- words and sessions after a request on a session
-  same_pages : new.pages ≡ old.pages → AreReady new.pages.grammar new.pages.words
-  same_pages same = subst (λ (p : parts.State). AreReady p.grammar p.words) (sym same) ready.pages
+  same_pages : new.stored ≡ old.stored → AreReady new.stored.grammar new.stored.words
+  same_pages same = subst (λ (p : Stored). AreReady p.grammar p.words) (sym same) ready.stored
 
-  session_done : (request : Request) → whole.IsDone old request reply new → AreReady new.pages.grammar new.pages.words × AreShortSessions new.sessions
-  session_done (requests.Begin article) (free, x) = (
-    same_pages (ap (λ (s : State). s.pages) x.after),
+  session_done : (request : Request) → whole.IsDone old request reply new → AreReady new.stored.grammar new.stored.words × AreShortSessions new.sessions
+  session_done (requests.OnArticle article of_article.Open) (free, x) = (
+    same_pages (ap (λ (s : State). s.stored) x.after),
     subst AreShortSessions (sym (ap (λ (s : State). s.sessions) x.after))
         (short_append old.sessions (new_session (numbered (old.last + 1)) x.word x.article.revision) ready.short (omega arith)),
   )
-  session_done (requests.Put session text) (free, x) = (
-    same_pages (ap (λ (s : State). s.pages) x.after),
+  session_done (requests.OnSession session (of_session.Type text)) (free, x) = (
+    same_pages (ap (λ (s : State). s.stored) x.after),
     subst AreShortSessions (sym (ap (λ (s : State). s.sessions) x.after))
-        (short_changed old.sessions session (with_tokens (λ tokens. tokens ++ typed old.pages.grammar.terminals tokens text ∷ [])) ready.short
-        (typed_short old.sessions session (λ s. typed old.pages.grammar.terminals s.tokens text) x.session
+        (short_changed old.sessions session (with_tokens (λ tokens. tokens ++ typed old.stored.grammar.terminals tokens text ∷ [])) ready.short
+        (typed_short old.sessions session (λ s. typed old.stored.grammar.terminals s.tokens text) x.session
         (not_full x.session x.named free) (only 0 old.last session old.sessions ready.apt x.session x.named))),
   )
     where
-      not_full : (found : PlainSession) → session_numbered old session ≡ Some found → IsFree old (requests.Put session text) → length found.tokens < 40
+      not_full : (found : PlainSession) → session_numbered old session ≡ Some found → IsFree old (requests.OnSession session (of_session.Type text))
+          → length found.tokens < 40
       not_full found named free = by (cases_lt (length found.tokens) 40)
         where
           by : (length found.tokens < 40) ⊎ (40 ≤ length found.tokens) → length found.tokens < 40
@@ -302,64 +318,64 @@ module _ (old new : State) (reply : Reply) (ready : IsReady old) where
             λ other gone. none-some found (sym gone.none ∙ named),
             inl (record { session = found; named = named; full = full; told = refl }),
           )))
-  session_done (requests.Back session) (free, x) = (
-    same_pages (ap (λ (s : State). s.pages) x.after),
+  session_done (requests.OnSession session of_session.Back) (free, x) = (
+    same_pages (ap (λ (s : State). s.stored) x.after),
     subst AreShortSessions (sym (ap (λ (s : State). s.sessions) x.after))
         (short_changed old.sessions session (with_tokens (λ tokens. take (length tokens - 1) tokens)) ready.short
         (no_longer old.sessions session (with_tokens (λ tokens. take (length tokens - 1) tokens)) (λ s. take_less s.tokens (length s.tokens - 1)) ready.short)),
   )
-  session_done (requests.Menu session) (free, x) = (
-    same_pages (ap (λ (s : State). s.pages) x.after),
+  session_done (requests.OnSession session of_session.Menu) (free, x) = (
+    same_pages (ap (λ (s : State). s.stored) x.after),
     kept_short (ap (λ (s : State). s.sessions) x.after),
   )
-  session_done (requests.Commit session) (free, x) = (
-    same_words old.pages new.pages ready.pages (ap (λ (s : State). s.pages.grammar) x.after) (ap (λ (s : State). s.pages.words) x.after),
+  session_done (requests.OnSession session of_session.Commit) (free, x) = (
+    same_words old.stored new.stored ready.stored (ap (λ (s : State). s.stored.grammar) x.after) (ap (λ (s : State). s.stored.words) x.after),
     subst AreShortSessions (sym (ap (λ (s : State). s.sessions) x.after))
         (short_changed old.sessions session (begun_again x.article) ready.short
         (no_longer old.sessions session (begun_again x.article) (λ s. omega arith) ready.short)),
   )
-  session_done (requests.Refresh session) (free, x) = (
-    same_pages (ap (λ (s : State). s.pages) x.after),
+  session_done (requests.OnSession session of_session.Refresh) (free, x) = (
+    same_pages (ap (λ (s : State). s.stored) x.after),
     subst AreShortSessions (sym (ap (λ (s : State). s.sessions) x.after))
         (short_changed old.sessions session (with_revision x.article.revision) ready.short
         (no_longer old.sessions session (with_revision x.article.revision) (λ s. omega arith) ready.short)),
   )
-  session_done (requests.Drop session) (free, x) = (
-    same_pages (ap (λ (s : State). s.pages) x.after),
+  session_done (requests.OnSession session of_session.Drop) (free, x) = (
+    same_pages (ap (λ (s : State). s.stored) x.after),
     subst AreShortSessions (sym (ap (λ (s : State). s.sessions) x.after))
         (short_filter (λ s. not (has_number (record { 0 = session }) s)) old.sessions ready.short),
   )
   session_done request (free, x) = absurd x
 
-  session_ready : (request : Request) → StepsSession old request reply new → AreReady new.pages.grammar new.pages.words × AreShortSessions new.sessions
+  session_ready : (request : Request) → StepsSession old request reply new → AreReady new.stored.grammar new.stored.words × AreShortSessions new.sessions
   session_ready request step = by (whole.outcome old request reply new step)
     where
       by : whole.IsRefused old request reply new ⊎ whole.IsDone old request reply new
-          → AreReady new.pages.grammar new.pages.words × AreShortSessions new.sessions
-      by (inl refused) = (same_pages (ap (λ (s : State). s.pages) refused.3), kept_short (ap (λ (s : State). s.sessions) refused.3))
+          → AreReady new.stored.grammar new.stored.words × AreShortSessions new.sessions
+      by (inl refused) = (same_pages (ap (λ (s : State). s.stored) refused.3), kept_short (ap (λ (s : State). s.sessions) refused.3))
       by (inr done) = session_done request done
 
   stored_ready : (request : Request) → GivesUtf8 request → GivesUnraised request → StepsPages old request reply new
-      → AreReady new.pages.grammar new.pages.words × AreShortSessions new.sessions
+      → AreReady new.stored.grammar new.stored.words × AreShortSessions new.sessions
   stored_ready request utf8 unraised step =
-      (pages_ready old.pages request reply new.pages ready.pages utf8 unraised step.pages, carried_short request step.pages step.sessions)
+      (pages_ready old.stored request reply new.stored ready.stored utf8 unraised step.stored, carried_short request step.stored step.sessions)
 
   parts_ready : (request : Request) → GivesUtf8 request → GivesUnraised request → Step old request reply new
-      → AreReady new.pages.grammar new.pages.words × AreShortSessions new.sessions
-  parts_ready (requests.Begin article) utf8 unraised step = session_ready (requests.Begin article) step
-  parts_ready (requests.Put session text) utf8 unraised step = session_ready (requests.Put session text) step
-  parts_ready (requests.Back session) utf8 unraised step = session_ready (requests.Back session) step
-  parts_ready (requests.Menu session) utf8 unraised step = session_ready (requests.Menu session) step
-  parts_ready (requests.Commit session) utf8 unraised step = session_ready (requests.Commit session) step
-  parts_ready (requests.Refresh session) utf8 unraised step = session_ready (requests.Refresh session) step
-  parts_ready (requests.Drop session) utf8 unraised step = session_ready (requests.Drop session) step
+      → AreReady new.stored.grammar new.stored.words × AreShortSessions new.sessions
+  parts_ready (requests.OnArticle article of_article.Open) utf8 unraised step = session_ready (requests.OnArticle article of_article.Open) step
+  parts_ready (requests.OnSession session (of_session.Type text)) utf8 unraised step = session_ready (requests.OnSession session (of_session.Type text)) step
+  parts_ready (requests.OnSession session of_session.Back) utf8 unraised step = session_ready (requests.OnSession session of_session.Back) step
+  parts_ready (requests.OnSession session of_session.Menu) utf8 unraised step = session_ready (requests.OnSession session of_session.Menu) step
+  parts_ready (requests.OnSession session of_session.Commit) utf8 unraised step = session_ready (requests.OnSession session of_session.Commit) step
+  parts_ready (requests.OnSession session of_session.Refresh) utf8 unraised step = session_ready (requests.OnSession session of_session.Refresh) step
+  parts_ready (requests.OnSession session of_session.Drop) utf8 unraised step = session_ready (requests.OnSession session of_session.Drop) step
   parts_ready request utf8 unraised step = stored_ready request utf8 unraised step
 
   -- a wiki stays ready
   pub stays_ready : (request : Request) → GivesUtf8 request → GivesUnraised request → Step old request reply new → IsReady new
   stays_ready request utf8 unraised step =
       let both = parts_ready request utf8 unraised step in
-      record { pages = both.0; apt = (open_step old new 0 ready.apt (omega arith) request reply step).apt; short = both.1 }
+      record { stored = both.0; apt = (open_step old new 0 ready.apt (omega arith) request reply step).apt; short = both.1 }
 
 -- ---- runs
 
@@ -392,30 +408,30 @@ asks_again (request ∷ asked) more first last budget its_last (reply, next, ste
     (subst (λ (s : State). Asks s (asked ++ more) its_last) (step_one first budget request reply its_reply next its_next step its_step kept its_kept) its_rest)
 
 -- the change of a step, asked anywhere over the same words and sentences
-pub made_again : (old new : parts.State) (change : Request) (said : Reply) → store.Step old change said new → tells_spent said ≡ false
-    → asks_store change ≡ true → (other its_new : State) (its_reply : Reply) → StandAlike old other.pages → Step other change its_reply its_new
-    → tells_spent its_reply ≡ false → StandAlike new its_new.pages
+pub made_again : (old new : Stored) (change : Request) (said : Reply) → store.Step old change said new → tells_spent said ≡ false
+    → asks_store change ≡ true → (other its_new : State) (its_reply : Reply) → StandAlike old other.stored → Step other change its_reply its_new
+    → tells_spent its_reply ≡ false → StandAlike new its_new.stored
 made_again old new change said step kept asks other its_new its_reply same its_step its_kept =
     let pages : StepsPages other change its_reply its_new =
     subst (λ (b : Bool). MatchBool b (StepsPages other change its_reply its_new) (StepsSession other change its_reply its_new)) asks its_step in
-    let stored : store.Step (at_budget old other.pages.budget) change its_reply its_new.pages =
-    subst (λ (p : parts.State). store.Step p change its_reply its_new.pages) same pages.pages in
-    let is : its_new.pages ≡ at_budget new other.pages.budget =
-    store_one old other.pages.budget change said its_reply new its_new.pages step stored kept its_kept in
-    is ∙ sym (ap (λ (n : ℕ). at_budget new n) (ap (λ (p : parts.State). p.budget) is))
+    let stored : store.Step (at_budget old other.stored.budget) change its_reply its_new.stored =
+    subst (λ (p : Stored). store.Step p change its_reply its_new.stored) same pages.stored in
+    let is : its_new.stored ≡ at_budget new other.stored.budget =
+    store_one old other.stored.budget change said its_reply new its_new.stored step stored kept its_kept in
+    is ∙ sym (ap (λ (n : ℕ). at_budget new n) (ap (λ (p : Stored). p.budget) is))
 
 -- the changes of a run, asked over the same words and sentences
 made_run : (exchanges : List (Exchange Request Reply)) (first last other its_last : State) → IsReady first → Turns Step first exchanges last
-    → All GivesUtf8 (asked_of exchanges) → All GivesUnraised (asked_of exchanges) → SpendsNone exchanges → StandAlike first.pages other.pages
+    → All GivesUtf8 (asked_of exchanges) → All GivesUnraised (asked_of exchanges) → SpendsNone exchanges → StandAlike first.stored other.stored
     → Asks other (changes_of exchanges) its_last
-    → StandAlike last.pages its_last.pages
+    → StandAlike last.stored its_last.stored
 made_run [] first last other its_last ready turns utf8 unraised kept same asks =
-    subst (λ (s : State). StandAlike s.pages its_last.pages) (sym turns) (subst (λ (s : State). StandAlike first.pages s.pages) (sym asks) same)
+    subst (λ (s : State). StandAlike s.stored its_last.stored) (sym turns) (subst (λ (s : State). StandAlike first.stored s.stored) (sym asks) same)
 made_run (no_request ∷ exchanges) first last other its_last ready (next, is, turns) utf8 unraised kept same asks =
     made_run exchanges next last other its_last (subst IsReady (sym is) ready) turns utf8 unraised kept
-    (subst (λ (s : State). StandAlike s.pages other.pages) (sym is) same) asks
+    (subst (λ (s : State). StandAlike s.stored other.stored) (sym is) same) asks
 made_run (answered request reply ∷ exchanges) first last other its_last ready (next, step, turns) utf8 unraised kept same asks =
-    by (step_made first request reply next ready.pages ready.short step)
+    by (step_made first request reply next ready.stored ready.short step)
     (λ it alike asked. made_run exchanges next last it its_last later turns later_utf8 later_unraised both.1 alike asked)
   where
     both : (tells_spent reply ≡ false) × (list_any is_spent_in exchanges ≡ false)
@@ -431,18 +447,18 @@ made_run (answered request reply ∷ exchanges) first last other its_last ready 
     later_unraised : All GivesUnraised (asked_of exchanges)
     later_unraised = All-tail GivesUnraised request (asked_of exchanges) unraised
 
-    by : IsMade first.pages request reply next.pages
-        → ((it : State) → StandAlike next.pages it.pages → Asks it (changes_of exchanges) its_last → StandAlike last.pages its_last.pages)
-        → StandAlike last.pages its_last.pages
+    by : IsMade first.stored request reply next.stored
+        → ((it : State) → StandAlike next.stored it.stored → Asks it (changes_of exchanges) its_last → StandAlike last.stored its_last.stored)
+        → StandAlike last.stored its_last.stored
     by (inl (none, is)) going_on =
         going_on other
-        (subst (λ (p : parts.State). StandAlike p other.pages) (sym is) same)
+        (subst (λ (p : Stored). StandAlike p other.stored) (sym is) same)
         (subst (λ (changes : List Request). Asks other (changes ++ changes_of exchanges) its_last) none asks)
     by (inr (change, only_one, asks_it, made)) going_on =
         let first_asks : Asks other (change ∷ changes_of exchanges) its_last =
         subst (λ (changes : List Request). Asks other (changes ++ changes_of exchanges) its_last) only_one asks in
         going_on first_asks.1
-        (made_again first.pages next.pages change (reply_again reply) made (spent_again reply ∙ both.0) asks_it other first_asks.1 first_asks.0 same
+        (made_again first.stored next.stored change (reply_again reply) made (spent_again reply ∙ both.0) asks_it other first_asks.1 first_asks.0 same
         first_asks.2 first_asks.3)
         first_asks.4
 
@@ -461,7 +477,7 @@ ready_run (no_request ∷ exchanges) first last ready (next, is, turns) utf8 unr
 -- the wiki without words is ready
 pub first_ready : (g : GrammarParts) (budget : ℕ) → IsSound g → NoneIsRaised g.terminals → IsReady (first_state g budget)
 first_ready g budget sound apart = record {
-  pages = record { sound = sound; apart = apart; terminals = refl; readable = no_words g.terminals };
+  stored = record { sound = sound; apart = apart; terminals = refl; readable = no_words g.terminals };
   apt = omega arith;
   short = tt;
 }

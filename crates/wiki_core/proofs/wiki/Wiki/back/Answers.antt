@@ -4,7 +4,7 @@ use Rattle.wiki_core.proofs.wiki.Wiki.back.Goals as goal
 
 pub invariant_of-self : goal.invariant_of-self
 invariant_of-self c =
-    let pages = c.self.inside.store.state in
-    held_back pages c.self.inside.sessions c.back.new.self c.self.inside.last (record { 0 = c.args.number }) (λ tokens. take (length tokens - 1) tokens)
+    let stored = c.self.inside.store.state in
+    held_back stored c.self.inside.sessions c.back.new.self c.self.inside.last (record { 0 = c.args.number }) (λ tokens. take (length tokens - 1) tokens)
     c.back.result c.self.invariant
-    (c.back.ensures.kept pages.grammar pages.words c.self.invariant.kept) c.back.ensures.last c.back.ensures.none
+    (c.back.ensures.kept stored.grammar stored.words c.self.invariant.kept) c.back.ensures.last c.back.ensures.none

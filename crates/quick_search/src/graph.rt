@@ -39,6 +39,8 @@ pub(crate) struct Candidate {
 pub(crate) struct Spot {
     pub(crate) parent: Option<u64>,
     pub(crate) label: Vec<u64>,
+    // The same as bits.
+    bits: Vec<u64>,
     // The step that added each class of the label.
     makers: Vec<u64>,
     // The edges that begin or end here.
@@ -78,8 +80,9 @@ pub(crate) struct Graph {
     places: BTreeMap<(u64, u64), u64>,
     agenda: BTreeSet<Candidate>,
     trail: Vec<Change>,
-    // How often a class at a node was part of what closed a branch, of late above all, and what the next time counts for.
-    weights: BTreeMap<(u64, u64), u64>,
+    // How often a class at a node was part of what closed a branch, of late above all, and what the next time counts for: lists by
+    // the class, of which the last is for all nodes without a name.
+    weights: Vec<Vec<u64>>,
     gain: u64,
 }
 
@@ -99,6 +102,27 @@ fn spread(concept: u64) -> u64 {
     mixed ^ (mixed >> 29)
 }
 
+const BITS: u64 = 64;
+
+impl Spot {
+    fn mark(&mut self, concept: u64) -> Result<(), Memory> {
+        let word = (concept / BITS) as usize;
+        for _ in self.bits.len()..=word {
+            self.bits.push(0)?;
+        }
+        if let Some(bits) = self.bits.get_mut(word) {
+            *bits |= 1 << (concept % BITS);
+        }
+        Ok(())
+    }
+
+    fn unmark(&mut self, concept: u64) {
+        if let Some(bits) = self.bits.get_mut((concept / BITS) as usize) {
+            *bits &= !(1 << (concept % BITS));
+        }
+    }
+}
+
 impl Graph {
     // A branch without nodes.
     fn empty(alloc: Global, k: &Knowledge) -> Result<Graph, Memory> {
@@ -113,7 +137,7 @@ impl Graph {
             places: BTreeMap::new(alloc),
             agenda: BTreeSet::new(alloc),
             trail: Vec::new(alloc),
-            weights: BTreeMap::new(alloc),
+            weights: Vec::new(alloc),
             gain: FIRST_GAIN,
         })
     }
@@ -239,7 +263,11 @@ impl Graph {
     }
 
     pub(crate) fn has(&self, node: u64, concept: u64) -> bool {
-        self.places.contains_key(&(node, concept))
+        let word = match self.nodes.get(node as usize) {
+            Some(spot) => spot.bits.get((concept / BITS) as usize).copied(),
+            None => None,
+        };
+        (word.unwrap_or(0) >> (concept % BITS)) & 1 == 1
     }
 
     pub(crate) fn parent(&self, node: u64) -> Option<u64> {
@@ -277,6 +305,7 @@ impl Graph {
         };
         spot.label.push(concept)?;
         spot.makers.push(maker)?;
+        spot.mark(concept)?;
         spot.mix = spot.mix.wrapping_add(spread(concept));
         self.places.insert((node, concept), place)?;
         self.trail.push(Change::Class(node))?;
@@ -309,6 +338,7 @@ impl Graph {
         self.nodes.push(Spot {
             parent,
             label: Vec::new(self.alloc),
+            bits: Vec::new(self.alloc),
             makers: Vec::new(self.alloc),
             edges: Vec::new(self.alloc),
             children: Vec::new(self.alloc),
@@ -346,6 +376,7 @@ impl Graph {
         if let Some(spot) = self.nodes.get_mut(node as usize) {
             let _ = spot.makers.pop();
             if let Some(concept) = spot.label.pop() {
+                spot.unmark(concept);
                 spot.mix = spot.mix.wrapping_sub(spread(concept));
                 let _ = self.places.remove(&(node, concept));
             }
@@ -423,15 +454,12 @@ impl Graph {
     fn tightness(&self, candidate: Candidate) -> (u64, u64) {
         match self.class(candidate.node, candidate.place) {
             Some(concept) => {
-                let weight = self
-                    .weights
-                    .get(&self.whose(candidate.node, concept))
-                    .copied();
+                let weight = self.weight(candidate.node, concept);
                 let open = match candidate.rank {
                     Rank::Some => 2,
                     _ => self.open_count(candidate.node, concept),
                 };
-                (open, weight.unwrap_or(0).saturating_add(FIRST_GAIN))
+                (open, weight.saturating_add(FIRST_GAIN))
             }
             None => (0, 1),
         }
@@ -439,24 +467,40 @@ impl Graph {
 
     // A class at a node was part of what closed a branch.
     pub(crate) fn weigh(&mut self, node: u64, concept: u64) -> Result<(), Memory> {
-        let whose = self.whose(node, concept);
-        let weight = self.weights.get(&whose).copied().unwrap_or(0);
-        let _ = self
-            .weights
-            .insert(whose, weight.saturating_add(self.gain))?;
+        let place = node.min(self.roots) as usize;
+        for _ in self.weights.len()..=place {
+            self.weights.push(Vec::new(self.alloc))?;
+        }
+        if let Some(list) = self.weights.get_mut(place) {
+            for _ in list.len()..=(concept as usize) {
+                list.push(0)?;
+            }
+            if let Some(weight) = list.get_mut(concept as usize) {
+                *weight = weight.saturating_add(self.gain);
+            }
+        }
         self.gain = self.gain.saturating_add(self.gain / 128);
         if self.gain > MOST_GAIN {
-            self.gain /= SHRINKAGE;
-            for entry in self.weights.iter_mut() {
-                *entry.1 /= SHRINKAGE;
-            }
+            self.shrink();
         }
         Ok(())
     }
 
-    // What a weight is kept for: nodes without a name are one.
-    fn whose(&self, node: u64, concept: u64) -> (u64, u64) {
-        (node.min(self.roots), concept)
+    // Makes all weights smaller.
+    fn shrink(&mut self) {
+        self.gain /= SHRINKAGE;
+        for list in self.weights.iter_mut() {
+            for weight in list.iter_mut() {
+                *weight /= SHRINKAGE;
+            }
+        }
+    }
+
+    fn weight(&self, node: u64, concept: u64) -> u64 {
+        match self.weights.get(node.min(self.roots) as usize) {
+            Some(list) => list.get(concept as usize).copied().unwrap_or(0),
+            None => 0,
+        }
     }
 
     pub(crate) fn waiting(&self) -> usize {

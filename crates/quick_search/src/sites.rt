@@ -20,10 +20,7 @@ impl Graph {
     pub(crate) fn site(&self, candidate: Candidate) -> Option<u64> {
         let node = candidate.node;
         let concept = self.class(node, candidate.place)?;
-        if self.is_shadowed(node) {
-            return None;
-        }
-        match (candidate.rank, self.concepts.form(concept)) {
+        let site = match (candidate.rank, self.concepts.form(concept)) {
             (Rank::And, Form::And(_)) => self.zero_where(self.lacks_some(node, concept)),
             (Rank::Unfold, Form::Named(_)) => self.zero_where(self.lacks_some(node, concept)),
             (Rank::All, Form::All(word, inverted, part)) => {
@@ -41,6 +38,10 @@ impl Graph {
                 !self.is_blocked(node) && !self.is_served(role_of(word, inverted), node, part),
             ),
             _ => None,
+        };
+        match site {
+            Some(_) if self.is_shadowed(node) => None,
+            found => found,
         }
     }
 

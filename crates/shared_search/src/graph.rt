@@ -99,6 +99,8 @@ pub(crate) struct Graph {
     pub(crate) reasons: Vec<Fact>,
     // The node of its own for each class of a node that asks for a successor, where it was made once.
     own: BTreeMap<(usize, usize), usize>,
+    // The node for each list of classes that a successor begins with.
+    common: BTreeMap<Vec<usize>, usize>,
     numbers: BTreeMap<(usize, usize, usize), usize>,
     pub(crate) offers: Vec<Offer>,
     // The nodes that have each class.
@@ -153,6 +155,7 @@ impl Graph {
             trail: Vec::new(alloc),
             reasons: Vec::new(alloc),
             own: BTreeMap::new(alloc),
+            common: BTreeMap::new(alloc),
             numbers: BTreeMap::new(alloc),
             offers: Vec::new(alloc),
             bearers: Vec::new(alloc),
@@ -421,6 +424,30 @@ impl Graph {
         self.push_node(false)?;
         let _ = self.own.insert((node, number), made)?;
         Ok(made)
+    }
+
+    // The node for a list of classes that a successor begins with, if there is one.
+    pub(crate) fn common(&self, wanted: &Vec<usize>) -> Option<usize> {
+        self.common.get(wanted).copied()
+    }
+
+    // The node that is made for a successor: that for its list of classes, unless that stands for an element, and else its own.
+    pub(crate) fn new_for(
+        &mut self,
+        node: usize,
+        number: usize,
+        wanted: Vec<usize>,
+    ) -> Result<usize, Memory> {
+        match self.common(&wanted) {
+            Some(known) if !self.is_there(known) => Ok(known),
+            Some(_) => self.own(node, number),
+            None => {
+                let made = self.nodes.len();
+                self.push_node(false)?;
+                let _ = self.common.insert(wanted, made)?;
+                Ok(made)
+            }
+        }
     }
 
     // From now on a node stands for an element.

@@ -120,6 +120,15 @@ impl Graph {
                     self.try_one(rules, errand, wanted.as_slice(), *other, &mut best);
                 }
             }
+            if best.count > 0 {
+                let mut list = wanted;
+                list.sort_unstable();
+                let common = self.common(&list);
+                best = Best { node: None, count: usize::MAX };
+                if let Some(other) = common {
+                    self.try_one(rules, errand, list.as_slice(), other, &mut best);
+                }
+            }
         }
         Ok(best.node)
     }
@@ -220,7 +229,9 @@ impl Graph {
     // Has a node of its own be the successor, and answers it.
     pub(crate) fn give_own(&mut self, rules: &Rules, errand: Errand) -> Result<usize, Memory> {
         let model = self.new_model(rules, errand);
-        let made = self.own(errand.node, errand.number)?;
+        let mut wanted = self.wanted(rules, errand)?;
+        wanted.sort_unstable();
+        let made = self.new_for(errand.node, errand.number, wanted)?;
         self.set_model(made, model)?;
         self.make(made)?;
         let reason = [Fact::Class(errand.node, errand.number)];

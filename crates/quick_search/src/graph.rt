@@ -1,5 +1,6 @@
 // The branch of the quick search, by numbers, with what is needed to go back and with an agenda of steps that may apply.
-use crate::concepts::{Concepts, Form};
+use crate::concepts::{Concepts, Form, role_of};
+use crate::lessons::Lessons;
 use crate::roles::{Roles, Way};
 use logic_terms::{Knowledge, Role};
 use std::alloc::Global;
@@ -37,8 +38,12 @@ pub(crate) struct Candidate {
 
 #[derive(Drop)]
 pub(crate) struct Spot {
+    // What the node is called in each branch in which the same class of the same node asked for it.
+    key: u64,
     pub(crate) parent: Option<u64>,
     pub(crate) label: Vec<u64>,
+    // The same as bits.
+    bits: Vec<u64>,
     // The step that added each class of the label.
     makers: Vec<u64>,
     // The edges that begin or end here.
@@ -75,12 +80,16 @@ pub(crate) struct Graph {
     pub(crate) roots: u64,
     pub(crate) nodes: Vec<Spot>,
     pub(crate) edges: Vec<Link>,
-    places: BTreeMap<(u64, u64), u64>,
+    // The keys of successors by the key of a node and the class that asks for one, and the node of each key.
+    keys: BTreeMap<(u64, u64), u64>,
+    here: Vec<Option<u64>>,
     agenda: BTreeSet<Candidate>,
     trail: Vec<Change>,
-    // How often a class at a node was part of what closed a branch, of late above all, and what the next time counts for.
-    weights: BTreeMap<(u64, u64), u64>,
+    // How often a class at a node was part of what closed a branch, of late above all, and what the next time counts for: lists by
+    // the class, of which the last is for all nodes without a name.
+    weights: Vec<Vec<u64>>,
     gain: u64,
+    pub(crate) lessons: Lessons,
 }
 
 // How many unions are compared at most before one is split.
@@ -99,6 +108,27 @@ fn spread(concept: u64) -> u64 {
     mixed ^ (mixed >> 29)
 }
 
+const BITS: u64 = 64;
+
+impl Spot {
+    fn mark(&mut self, concept: u64) -> Result<(), Memory> {
+        let word = (concept / BITS) as usize;
+        for _ in self.bits.len()..=word {
+            self.bits.push(0)?;
+        }
+        if let Some(bits) = self.bits.get_mut(word) {
+            *bits |= 1 << (concept % BITS);
+        }
+        Ok(())
+    }
+
+    fn unmark(&mut self, concept: u64) {
+        if let Some(bits) = self.bits.get_mut((concept / BITS) as usize) {
+            *bits &= !(1 << (concept % BITS));
+        }
+    }
+}
+
 impl Graph {
     // A branch without nodes.
     fn empty(alloc: Global, k: &Knowledge) -> Result<Graph, Memory> {
@@ -110,11 +140,13 @@ impl Graph {
             roots: root_count(k),
             nodes: Vec::new(alloc),
             edges: Vec::new(alloc),
-            places: BTreeMap::new(alloc),
+            keys: BTreeMap::new(alloc),
+            here: Vec::new(alloc),
             agenda: BTreeSet::new(alloc),
             trail: Vec::new(alloc),
-            weights: BTreeMap::new(alloc),
+            weights: Vec::new(alloc),
             gain: FIRST_GAIN,
+            lessons: Lessons::new(alloc),
         })
     }
 
@@ -235,11 +267,24 @@ impl Graph {
 
     // The place of a class in a label.
     pub(crate) fn place(&self, node: u64, concept: u64) -> Option<u64> {
-        self.places.get(&(node, concept)).copied()
+        if !self.has(node, concept) {
+            return None;
+        }
+        match self.nodes.get(node as usize) {
+            Some(spot) => match spot.label.iter().position(|other| *other == concept) {
+                Some(place) => Some(place as u64),
+                None => None,
+            },
+            None => None,
+        }
     }
 
     pub(crate) fn has(&self, node: u64, concept: u64) -> bool {
-        self.places.contains_key(&(node, concept))
+        let word = match self.nodes.get(node as usize) {
+            Some(spot) => spot.bits.get((concept / BITS) as usize).copied(),
+            None => None,
+        };
+        (word.unwrap_or(0) >> (concept % BITS)) & 1 == 1
     }
 
     pub(crate) fn parent(&self, node: u64) -> Option<u64> {
@@ -272,20 +317,46 @@ impl Graph {
             return Ok(());
         }
         let place = self.label_len(node);
+        let blocks = node >= self.roots && self.is_in_pair(node)?;
         let Some(spot) = self.nodes.get_mut(node as usize) else {
             return Ok(());
         };
         spot.label.push(concept)?;
         spot.makers.push(maker)?;
+        spot.mark(concept)?;
         spot.mix = spot.mix.wrapping_add(spread(concept));
-        self.places.insert((node, concept), place)?;
         self.trail.push(Change::Class(node))?;
         self.put_class(node, place, concept)?;
         self.put_watchers(node, concept)?;
-        if node >= self.roots {
+        if blocks {
             self.put_unblocked(node)?;
         }
         Ok(())
+    }
+
+    // Whether an anonymous node has the classes of one above it, or one below has its classes.
+    fn is_in_pair(&self, node: u64) -> Result<bool, Memory> {
+        if self.is_repeated(node) {
+            return Ok(true);
+        }
+        if self.child_count(node) == 0 {
+            return Ok(false);
+        }
+        let mut waiting = Vec::new(self.alloc);
+        waiting.push(node)?;
+        for _ in 0..self.nodes.len() {
+            if let Some(above) = waiting.pop() {
+                for place in 0..self.child_count(above) {
+                    if let Some(child) = self.child(above, place) {
+                        if self.are_alike(child, node) {
+                            return Ok(true);
+                        }
+                        waiting.push(child)?;
+                    }
+                }
+            }
+        }
+        Ok(false)
     }
 
     pub(crate) fn add_edge(&mut self, link: Link) -> Result<(), Memory> {
@@ -300,15 +371,108 @@ impl Graph {
             }
         }
         self.trail.push(Change::Edge)?;
-        self.put_for_neighbours(link.from)?;
-        self.put_for_neighbours(link.to)
+        self.put_along(link.from, link)?;
+        self.put_along(link.to, link)
     }
 
-    pub(crate) fn add_node(&mut self, parent: Option<u64>) -> Result<(), Memory> {
+    // Puts in the steps at a node that add to the other end of an edge.
+    fn put_along(&mut self, node: u64, link: Link) -> Result<(), Memory> {
+        for place in 0..self.label_len(node) {
+            if let Some(concept) = self.class(node, place) {
+                if self.passes(node, concept, link) {
+                    self.put_at(Rank::All, node, place)?;
+                }
+                if self.carries(node, concept, link) {
+                    self.put_at(Rank::Trans, node, place)?;
+                }
+            }
+        }
+        Ok(())
+    }
+
+    // Whether a class at a node adds to the other end of an edge.
+    fn passes(&self, node: u64, concept: u64, link: Link) -> bool {
+        match self.concepts.form(concept) {
+            Form::All(word, inverted, part) => self.lacks_across(
+                node,
+                role_of(word, inverted),
+                part,
+                link,
+            ),
+            _ => false,
+        }
+    }
+
+    // Whether a transitive role carries a class at a node to the other end of an edge.
+    fn carries(&self, node: u64, concept: u64, link: Link) -> bool {
+        for place in 0..self.concepts.carrier_count(concept) {
+            if let Some(entry) = self.concepts.carried(concept, place) {
+                if self.lacks_across(node, entry.0, entry.1, link) {
+                    return true;
+                }
+            }
+        }
+        false
+    }
+
+    // Whether an edge leads from a node by the role to one that lacks a class.
+    fn lacks_across(&self, node: u64, role: Role, part: u64, link: Link) -> bool {
+        match self.end_by(self.roles.way(role), node, link) {
+            Some(other) => !self.has(other, part),
+            None => false,
+        }
+    }
+
+    // The key of the successor that a class of a node asks for.
+    pub(crate) fn key_for(&mut self, node: u64, concept: u64) -> Result<u64, Memory> {
+        let asked = (self.key(node), concept);
+        if let Some(known) = self.keys.get(&asked) {
+            return Ok(*known);
+        }
+        let key = self.here.len() as u64;
+        self.here.push(None)?;
+        self.keys.insert(asked, key)?;
+        Ok(key)
+    }
+
+    pub(crate) fn key(&self, node: u64) -> u64 {
+        match self.nodes.get(node as usize) {
+            Some(spot) => spot.key,
+            None => node,
+        }
+    }
+
+    // Whether the node of a key is there and has a class.
+    pub(crate) fn has_fact(&self, fact: (u64, u64)) -> bool {
+        match self.node_at(fact.0) {
+            Some(node) => self.has(node, fact.1),
+            None => false,
+        }
+    }
+
+    pub(crate) fn node_at(&self, key: u64) -> Option<u64> {
+        self.here.get(key as usize).copied().unwrap_or(None)
+    }
+
+    // Adds a node of a name, or the successor that a class of a node asks for.
+    pub(crate) fn add_node(&mut self, asked: Option<(u64, u64)>) -> Result<(), Memory> {
         let node = self.nodes.len() as u64;
+        let (parent, key) = match asked {
+            Some((above, concept)) => (Some(above), self.key_for(above, concept)?),
+            None => {
+                let key = self.here.len() as u64;
+                self.here.push(None)?;
+                (None, key)
+            }
+        };
+        if let Some(place) = self.here.get_mut(key as usize) {
+            *place = Some(node);
+        }
         self.nodes.push(Spot {
+            key,
             parent,
             label: Vec::new(self.alloc),
+            bits: Vec::new(self.alloc),
             makers: Vec::new(self.alloc),
             edges: Vec::new(self.alloc),
             children: Vec::new(self.alloc),
@@ -346,8 +510,8 @@ impl Graph {
         if let Some(spot) = self.nodes.get_mut(node as usize) {
             let _ = spot.makers.pop();
             if let Some(concept) = spot.label.pop() {
+                spot.unmark(concept);
                 spot.mix = spot.mix.wrapping_sub(spread(concept));
-                let _ = self.places.remove(&(node, concept));
             }
         }
     }
@@ -367,6 +531,9 @@ impl Graph {
 
     fn drop_node(&mut self) {
         if let Some(spot) = self.nodes.pop() {
+            if let Some(place) = self.here.get_mut(spot.key as usize) {
+                *place = None;
+            }
             if let Some(above) = spot.parent {
                 if let Some(parent) = self.nodes.get_mut(above as usize) {
                     let _ = parent.children.pop();
@@ -400,38 +567,32 @@ impl Graph {
 
     fn tightest(&self, first: Candidate) -> Candidate {
         let mut best = first;
+        let mut least = self.tightness(first);
         let mut seen: usize = 0;
         for candidate in self.agenda.iter() {
             if seen >= MOST_COMPARED {
                 return best;
             }
             seen = seen.saturating_add(1);
-            if self.is_tighter(*candidate, best) && self.site(*candidate).is_some() {
+            let tightness = self.tightness(*candidate);
+            if is_tighter(tightness, least) && self.site(*candidate).is_some() {
                 best = *candidate;
+                least = tightness;
             }
         }
         best
-    }
-
-    fn is_tighter(&self, one: Candidate, other: Candidate) -> bool {
-        let (open, weight) = self.tightness(one);
-        let (others, their_weight) = self.tightness(other);
-        open.saturating_mul(their_weight) < others.saturating_mul(weight)
     }
 
     // How many choices are left, and the weight.
     fn tightness(&self, candidate: Candidate) -> (u64, u64) {
         match self.class(candidate.node, candidate.place) {
             Some(concept) => {
-                let weight = self
-                    .weights
-                    .get(&self.whose(candidate.node, concept))
-                    .copied();
+                let weight = self.weight(candidate.node, concept);
                 let open = match candidate.rank {
                     Rank::Some => 2,
                     _ => self.open_count(candidate.node, concept),
                 };
-                (open, weight.unwrap_or(0).saturating_add(FIRST_GAIN))
+                (open, weight.saturating_add(FIRST_GAIN))
             }
             None => (0, 1),
         }
@@ -439,24 +600,40 @@ impl Graph {
 
     // A class at a node was part of what closed a branch.
     pub(crate) fn weigh(&mut self, node: u64, concept: u64) -> Result<(), Memory> {
-        let whose = self.whose(node, concept);
-        let weight = self.weights.get(&whose).copied().unwrap_or(0);
-        let _ = self
-            .weights
-            .insert(whose, weight.saturating_add(self.gain))?;
-        self.gain = self.gain.saturating_add(self.gain / 128);
-        if self.gain > MOST_GAIN {
-            self.gain /= SHRINKAGE;
-            for entry in self.weights.iter_mut() {
-                *entry.1 /= SHRINKAGE;
+        let place = node.min(self.roots) as usize;
+        for _ in self.weights.len()..=place {
+            self.weights.push(Vec::new(self.alloc))?;
+        }
+        if let Some(list) = self.weights.get_mut(place) {
+            for _ in list.len()..=(concept as usize) {
+                list.push(0)?;
             }
+            if let Some(weight) = list.get_mut(concept as usize) {
+                *weight = weight.saturating_add(self.gain);
+            }
+        }
+        self.gain = self.gain.saturating_add(self.gain / 16);
+        if self.gain > MOST_GAIN {
+            self.shrink();
         }
         Ok(())
     }
 
-    // What a weight is kept for: nodes without a name are one.
-    fn whose(&self, node: u64, concept: u64) -> (u64, u64) {
-        (node.min(self.roots), concept)
+    // Makes all weights smaller.
+    fn shrink(&mut self) {
+        self.gain /= SHRINKAGE;
+        for list in self.weights.iter_mut() {
+            for weight in list.iter_mut() {
+                *weight /= SHRINKAGE;
+            }
+        }
+    }
+
+    fn weight(&self, node: u64, concept: u64) -> u64 {
+        match self.weights.get(node.min(self.roots) as usize) {
+            Some(list) => list.get(concept as usize).copied().unwrap_or(0),
+            None => 0,
+        }
     }
 
     pub(crate) fn waiting(&self) -> usize {
@@ -631,4 +808,9 @@ impl Graph {
             None => None,
         }
     }
+}
+
+// Whether fewer choices are left for a weight.
+fn is_tighter(one: (u64, u64), other: (u64, u64)) -> bool {
+    one.0.saturating_mul(other.1) < other.0.saturating_mul(one.1)
 }

@@ -1,6 +1,7 @@
 // The quick search itself.
 use crate::graph::{Candidate, Graph, Rank};
-use crate::taking::Found;
+use crate::lessons::MOST_FACTS;
+use crate::taking::{Cause, Found};
 use crate::writing::write;
 use lists::List;
 use logic_terms::Knowledge;
@@ -20,10 +21,12 @@ pub enum Proposal {
     Nothing,
 }
 
-// A tree of the branches that were closed, in the numbers that their nodes had.
+// A tree of the branches that were closed, by the keys of their nodes.
 #[derive(Drop)]
 pub(crate) enum Proof {
     Clash(u64),
+    // The one that is kept at the place.
+    Known(usize),
     Step(Split, List<Proof>),
 }
 
@@ -34,7 +37,7 @@ pub(crate) struct Split {
     pub(crate) node: u64,
     pub(crate) concept: u64,
     pub(crate) other: u64,
-    // The node that it makes, if it makes one.
+    // The key of the node that it makes, if it makes one.
     pub(crate) made: u64,
 }
 
@@ -42,6 +45,7 @@ pub(crate) struct Split {
 #[derive(Drop)]
 struct Taken {
     candidate: Candidate,
+    other: u64,
     split: Split,
     choice: u64,
     choices: u64,
@@ -50,6 +54,7 @@ struct Taken {
     premises: Vec<u64>,
     // What closed the choices before this one, and the earlier steps that it rests on.
     shut: List<Proof>,
+    size: u64,
     needs: BTreeSet<u64>,
 }
 
@@ -69,6 +74,9 @@ struct Search {
     graph: Graph,
     path: Vec<Taken>,
     leaps: bool,
+    // Proofs that are used more than once, each of the ones before it, and how many steps they have.
+    known: Vec<Proof>,
+    sizes: Vec<u64>,
 }
 
 /// Searches for a branch without clash to which no rule applies, or for a closed tree, with at most `budget` rule
@@ -90,12 +98,14 @@ pub fn hunt(
         graph,
         path: Vec::new(alloc),
         leaps,
+        known: Vec::new(alloc),
+        sizes: Vec::new(alloc),
     };
     match search.run(None, budget)? {
         Turn::Open => Ok(Proposal::Steps(search.steps()?)),
         Turn::Shut(proof) => {
             search.graph.undo(0)?;
-            match write(&mut search.graph, &proof)? {
+            match write(&mut search.graph, search.known.as_slice(), &proof)? {
                 Some(tree) => Ok(Proposal::Tree(tree)),
                 None => Ok(Proposal::Nothing),
             }
@@ -122,12 +132,14 @@ pub fn hunt_within(
         graph: Graph::within(alloc, k, part, names, first)?,
         path: Vec::new(alloc),
         leaps: true,
+        known: Vec::new(alloc),
+        sizes: Vec::new(alloc),
     };
     let found = search.clash_at_first()?;
     match search.run(found, budget)? {
         Turn::Shut(proof) => {
             let mut whole = Graph::begun(alloc, k, first)?;
-            write(&mut whole, &proof)
+            write(&mut whole, search.known.as_slice(), &proof)
         }
         _ => Ok(None),
     }
@@ -204,34 +216,45 @@ impl Search {
         if choices == 0 {
             return Ok(Turn::Stuck);
         }
-        let split = Split {
-            rank: candidate.rank,
-            node: candidate.node,
-            concept: self
-                .graph
-                .class(candidate.node, candidate.place)
-                .unwrap_or(0),
-            other,
-            made: self.graph.nodes.len() as u64,
-        };
+        let split = self.split(candidate, other)?;
         self.path.push(Taken {
             candidate,
+            other,
             split,
             choice: 0,
             choices,
             mark: self.graph.mark(),
             premises: self.graph.premises(candidate, other)?,
             shut: List::new(alloc),
+            size: 0,
             needs: BTreeSet::new(alloc),
         })?;
         let maker = self.path.len() as u64;
         Ok(Turn::Going(self.graph.take(candidate, other, 0, maker)?))
     }
 
+    // How a step is told in a proof.
+    fn split(&mut self, candidate: Candidate, other: u64) -> Result<Split, Memory> {
+        let node = candidate.node;
+        let concept = self.graph.class(node, candidate.place).unwrap_or(0);
+        let made = if candidate.rank == Rank::Some {
+            self.graph.key_for(node, concept)?
+        } else {
+            0
+        };
+        Ok(Split {
+            rank: candidate.rank,
+            node: self.graph.key(node),
+            concept,
+            other: self.graph.key(other),
+            made,
+        })
+    }
+
     // Goes back from a clash to the last choice that is left and that it rests on, and takes the one after it.
     fn back(&mut self, found: Found) -> Result<Turn, Memory> {
         let alloc = self.graph.alloc;
-        let mut proof = Proof::Clash(found.node);
+        let (mut proof, mut size) = self.proof_by(found.cause);
         let mut needs = BTreeSet::new(alloc);
         add_all(&mut needs, found.makers.as_slice())?;
         while let Some(taken) = self.path.pop() {
@@ -242,7 +265,9 @@ impl Search {
                 if last.split.rank >= Rank::Unit {
                     self.graph.weigh(last.split.node, last.split.concept)?;
                 }
-                last.shut.push(proof)?;
+                let shut = self.learned(&last, &needs, proof, size)?;
+                last.shut.push(shut)?;
+                last.size = last.size.saturating_add(size);
                 last.needs.append(&mut needs)?;
                 if last.choice.saturating_add(1) < last.choices {
                     return self.take_next(last);
@@ -251,14 +276,117 @@ impl Search {
                 let Taken {
                     split,
                     shut,
+                    size: below,
                     needs: rests_on,
                     ..
                 } = last;
                 proof = Proof::Step(split, shut);
+                size = below.saturating_add(1);
                 needs = rests_on;
             }
         }
         Ok(Turn::Shut(proof))
+    }
+
+    // The proof of a branch that is closed for this cause, and its size.
+    fn proof_by(&self, cause: Cause) -> (Proof, u64) {
+        match cause {
+            Cause::Clash(_, node) => (Proof::Clash(self.graph.key(node)), 1),
+            Cause::Lesson(number) => {
+                let place = self.graph.lessons.proof(number);
+                (
+                    Proof::Known(place),
+                    self.sizes.get(place).copied().unwrap_or(1),
+                )
+            }
+        }
+    }
+
+    // Takes a lesson up from a proof that closed a choice, and gives the proof.
+    fn learned(
+        &mut self,
+        last: &Taken,
+        needs: &BTreeSet<u64>,
+        proof: Proof,
+        size: u64,
+    ) -> Result<Proof, Memory> {
+        if !self.leaps || last.choices < 2 || size > MOST_STEPS || self.graph.lessons.is_full() {
+            return Ok(proof);
+        }
+        let mut facts = Vec::new(self.graph.alloc);
+        let mut between = Vec::new(self.graph.alloc);
+        if !self.gather(last, needs, &mut facts, &mut between)? {
+            return Ok(proof);
+        }
+        let place = self.keep(proof, size)?;
+        let mut whole = Proof::Known(place);
+        let mut steps = size;
+        for split in &between {
+            let mut single = List::new(self.graph.alloc);
+            single.push(whole)?;
+            whole = Proof::Step(*split, single);
+            steps = steps.saturating_add(1);
+        }
+        let kept = self.keep(whole, steps)?;
+        self.graph.lessons.add(facts, kept)?;
+        Ok(Proof::Known(place))
+    }
+
+    fn keep(&mut self, proof: Proof, size: u64) -> Result<usize, Memory> {
+        let place = self.known.len();
+        self.known.push(proof)?;
+        self.sizes.push(size)?;
+        Ok(place)
+    }
+
+    // Gathers the choices that a closed choice rests on, and the steps without choice between them, the last first. False where
+    // there are too many choices.
+    fn gather(
+        &self,
+        last: &Taken,
+        needs: &BTreeSet<u64>,
+        facts: &mut Vec<(u64, u64)>,
+        between: &mut Vec<Split>,
+    ) -> Result<bool, Memory> {
+        if !self.add_choice(last, facts)? {
+            return Ok(false);
+        }
+        let mut left = BTreeSet::new(self.graph.alloc);
+        for number in needs {
+            let _ = left.insert(*number)?;
+        }
+        for _ in 0..self.path.len() {
+            match left.pop_last() {
+                Some(number) => {
+                    if let Some(taken) = self.path.get((number.saturating_sub(1)) as usize) {
+                        if taken.choices > 1 {
+                            if !self.add_choice(taken, facts)? {
+                                return Ok(false);
+                            }
+                        } else {
+                            between.push(taken.split)?;
+                            add_all(&mut left, taken.premises.as_slice())?;
+                        }
+                    }
+                }
+                None => return Ok(true),
+            }
+        }
+        Ok(left.is_empty())
+    }
+
+    // Adds the class that a choice added, where there are not too many.
+    fn add_choice(&self, taken: &Taken, facts: &mut Vec<(u64, u64)>) -> Result<bool, Memory> {
+        if facts.len() >= MOST_FACTS {
+            return Ok(false);
+        }
+        match self.graph.concepts.part(taken.split.concept, taken.choice) {
+            Some(member) => {
+                facts.push((taken.split.node, member))?;
+                Ok(true)
+            }
+            None => Ok(false),
+        }
     }
 
     // Takes the choice that follows the last one.
@@ -267,7 +395,7 @@ impl Search {
         taken.choice = taken.choice.saturating_add(1);
         let choice = taken.choice;
         let candidate = taken.candidate;
-        let other = taken.split.other;
+        let other = taken.other;
         self.graph.undo(taken.mark)?;
         self.path.push(taken)?;
         let maker = self.path.len() as u64;
@@ -278,12 +406,15 @@ impl Search {
     fn steps(&self) -> Result<List<(Step, u64)>, Memory> {
         let mut steps = List::new(self.graph.alloc);
         for taken in &self.path {
-            let step = step_of(taken.candidate, taken.split.other);
+            let step = step_of(taken.candidate, taken.other);
             steps.push((step, taken.choice))?;
         }
         Ok(steps)
     }
 }
+
+// How many steps a proof that is used again has at most.
+const MOST_STEPS: u64 = 20_000;
 
 // Adds numbers of steps; 0 stands for the first branch.
 fn add_all(needs: &mut BTreeSet<u64>, makers: &[u64]) -> Result<(), Memory> {

@@ -5,6 +5,7 @@
 mod concepts;
 mod graph;
 mod hunting;
+mod lessons;
 mod roles;
 mod sites;
 mod taking;

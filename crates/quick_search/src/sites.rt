@@ -6,7 +6,7 @@ use logic_terms::Role;
 
 impl Graph {
     // The other end of an edge, where the edge makes it a neighbour by the role.
-    fn end_by(&self, way: Way, node: u64, link: Link) -> Option<u64> {
+    pub(crate) fn end_by(&self, way: Way, node: u64, link: Link) -> Option<u64> {
         if link.from == node && self.roles.is_below(link.way, way) {
             return Some(link.to);
         }
@@ -20,10 +20,7 @@ impl Graph {
     pub(crate) fn site(&self, candidate: Candidate) -> Option<u64> {
         let node = candidate.node;
         let concept = self.class(node, candidate.place)?;
-        if self.is_shadowed(node) {
-            return None;
-        }
-        match (candidate.rank, self.concepts.form(concept)) {
+        let site = match (candidate.rank, self.concepts.form(concept)) {
             (Rank::And, Form::And(_)) => self.zero_where(self.lacks_some(node, concept)),
             (Rank::Unfold, Form::Named(_)) => self.zero_where(self.lacks_some(node, concept)),
             (Rank::All, Form::All(word, inverted, part)) => {
@@ -41,6 +38,10 @@ impl Graph {
                 !self.is_blocked(node) && !self.is_served(role_of(word, inverted), node, part),
             ),
             _ => None,
+        };
+        match site {
+            Some(_) if self.is_shadowed(node) => None,
+            found => found,
         }
     }
 
@@ -140,17 +141,35 @@ impl Graph {
     }
 
     fn is_served(&self, role: Role, node: u64, part: u64) -> bool {
+        self.server(role, node, part).is_some()
+    }
+
+    // The first neighbour that is not indirectly blocked and has a class.
+    fn server(&self, role: Role, node: u64, part: u64) -> Option<u64> {
         let way = self.roles.way(role);
         for place in 0..self.edge_count(node) {
             if let Some(link) = self.edge_at(node, place) {
                 if let Some(other) = self.end_by(way, node, link) {
                     if self.has(other, part) && !self.is_shadowed(other) {
-                        return true;
+                        return Some(other);
                     }
                 }
             }
         }
-        false
+        None
+    }
+
+    // The neighbour that a step would make where it isn't there.
+    pub(crate) fn serving(&self, candidate: Candidate) -> Option<u64> {
+        let concept = self.class(candidate.node, candidate.place)?;
+        match self.concepts.form(concept) {
+            Form::Some(word, inverted, part) => self.server(
+                role_of(word, inverted),
+                candidate.node,
+                part,
+            ),
+            _ => None,
+        }
     }
 
     // The place of an edge, among those of the node, that makes the other node a neighbour by the role.
@@ -167,7 +186,7 @@ impl Graph {
     }
 
     // Whether a node is anonymous, and so is one above it with the same classes.
-    fn is_repeated(&self, node: u64) -> bool {
+    pub(crate) fn is_repeated(&self, node: u64) -> bool {
         if node < self.roots {
             return false;
         }

@@ -1,14 +1,21 @@
 // Taking steps, and the clashes that they make.
 use crate::concepts::{Form, role_of};
 use crate::graph::{Candidate, Graph, Link, Rank};
+use logic_terms::Role;
 use tableau_rules::Clash;
 use wiki_base::Memory;
 
-// A clash at a node, and the steps that it rests on.
+// Why a branch is closed: by a clash at a node, or by a lesson.
+#[derive(Clone, Copy, Debug, PartialEq, Eq)]
+pub(crate) enum Cause {
+    Clash(Clash, u64),
+    Lesson(usize),
+}
+
+// Why a branch is closed, and the steps that it rests on.
 #[derive(Drop)]
 pub(crate) struct Found {
-    pub(crate) clash: Clash,
-    pub(crate) node: u64,
+    pub(crate) cause: Cause,
     pub(crate) makers: Vec<u64>,
 }
 
@@ -59,11 +66,72 @@ impl Graph {
             }
             (Rank::Or, _) => self.add_part(node, concept, choice, maker)?,
             (Rank::Some, Form::Some(word, inverted, part)) => {
-                return self.take_some(node, word, inverted, part, maker);
+                return self.take_some((node, concept), role_of(word, inverted), part, maker);
             }
             _ => {}
         }
-        self.clash_from(grown, before)
+        match self.clash_from(grown, before)? {
+            Some(found) => Ok(Some(found)),
+            None => self.lesson_from(grown, before),
+        }
+    }
+
+    // A lesson that closes the branch by one of the classes from a place on.
+    fn lesson_from(&mut self, node: u64, start: u64) -> Result<Option<Found>, Memory> {
+        let key = self.key(node);
+        for place in start..self.label_len(node) {
+            if let Some(concept) = self.class(node, place) {
+                if self.lessons.speaks_of(concept) {
+                    if let Some(number) = self.lesson_at((key, concept))? {
+                        return Ok(Some(self.found_by(number)?));
+                    }
+                }
+            }
+        }
+        Ok(None)
+    }
+
+    // A lesson all of whose classes are there, now that this one came.
+    fn lesson_at(&mut self, came: (u64, u64)) -> Result<Option<usize>, Memory> {
+        let mut whole = None;
+        for number in self.lessons.called(came) {
+            let lacked = if whole.is_some() {
+                None
+            } else {
+                self.lacked(number)
+            };
+            if lacked.is_none() && whole.is_none() {
+                whole = Some(number);
+            }
+            let fact = lacked.unwrap_or(came);
+            self.lessons.wait_for(fact, number)?;
+        }
+        Ok(whole)
+    }
+
+    // One of the classes of a lesson that its node lacks.
+    fn lacked(&self, number: usize) -> Option<(u64, u64)> {
+        for fact in self.lessons.facts(number) {
+            if !self.has_fact(*fact) {
+                return Some(*fact);
+            }
+        }
+        None
+    }
+
+    fn found_by(&self, number: usize) -> Result<Found, Memory> {
+        let mut makers = Vec::new(self.alloc);
+        for fact in self.lessons.facts(number) {
+            if let Some(node) = self.node_at(fact.0) {
+                if let Some(place) = self.place(node, fact.1) {
+                    makers.push(self.maker(node, place))?;
+                }
+            }
+        }
+        Ok(Found {
+            cause: Cause::Lesson(number),
+            makers,
+        })
     }
 
     fn add_part(&mut self, node: u64, concept: u64, place: u64, maker: u64) -> Result<(), Memory> {
@@ -128,15 +196,15 @@ impl Graph {
 
     fn take_some(
         &mut self,
-        node: u64,
-        word: u32,
-        inverted: bool,
+        asked: (u64, u64),
+        role: Role,
         part: u64,
         maker: u64,
     ) -> Result<Option<Found>, Memory> {
+        let node = asked.0;
         let to = self.nodes.len() as u64;
-        self.add_node(Some(node))?;
-        let way = self.roles.way(role_of(word, inverted));
+        self.add_node(Some(asked))?;
+        let way = self.roles.way(role);
         self.add_edge(Link {
             from: node,
             way,
@@ -150,7 +218,10 @@ impl Graph {
                 self.add_class(to, concept, maker)?;
             }
         }
-        self.clash_from(to, 0)
+        match self.clash_from(to, 0)? {
+            Some(found) => Ok(Some(found)),
+            None => self.lesson_from(to, 0),
+        }
     }
 
     // The steps that a step rests on.
@@ -253,8 +324,7 @@ impl Graph {
         makers.push(self.maker(node, place))?;
         makers.push(maker)?;
         Ok(Found {
-            clash,
-            node,
+            cause: Cause::Clash(clash, node),
             makers,
         })
     }

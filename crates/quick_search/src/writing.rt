@@ -2,18 +2,23 @@
 use crate::concepts::{Form, role_of};
 use crate::graph::{Candidate, Graph, Rank};
 use crate::hunting::{Proof, Split, step_of};
+use crate::taking::{Cause, Found};
 use lists::List;
 use logic_terms::Knowledge;
-use tableau_rules::{Closed, Step};
+use tableau_rules::{Clash, Closed, Step};
 use wiki_base::Memory;
 
-// The numbers that nodes had and have now.
+// The keys that nodes had, and their numbers now.
 #[derive(Drop)]
 struct Moved {
     nodes: Vec<(u64, u64)>,
 }
 
 impl Moved {
+    fn knows(&self, node: u64) -> bool {
+        self.nodes.iter().any(|entry| entry.0 == node)
+    }
+
     fn now(&self, node: u64) -> u64 {
         let mut now = node;
         for entry in &self.nodes {
@@ -26,15 +31,35 @@ impl Moved {
 }
 
 // The tree that closes the first branch, which the graph is at; none where it is not found.
-pub(crate) fn write(graph: &mut Graph, proof: &Proof) -> Result<Option<Closed>, Memory> {
+pub(crate) fn write(
+    graph: &mut Graph,
+    known: &[Proof],
+    proof: &Proof,
+) -> Result<Option<Closed>, Memory> {
     let mut moved = Moved {
         nodes: Vec::new(graph.alloc),
     };
-    written(graph, &mut moved, proof)
+    written(graph, known, &mut moved, proof, MOST_DEPTH)
 }
 
-fn written(graph: &mut Graph, moved: &mut Moved, proof: &Proof) -> Result<Option<Closed>, Memory> {
+// How deep a tree is at most.
+const MOST_DEPTH: u64 = 100_000;
+
+fn written(
+    graph: &mut Graph,
+    known: &[Proof],
+    moved: &mut Moved,
+    proof: &Proof,
+    depth: u64,
+) -> Result<Option<Closed>, Memory> {
+    if depth == 0 {
+        return Ok(None);
+    }
     match proof {
+        Proof::Known(place) => match known.get(*place) {
+            Some(kept) => written(graph, known, moved, kept, depth - 1),
+            None => Ok(None),
+        },
         Proof::Clash(node) => shut(graph, moved.now(*node)),
         Proof::Step(split, proofs) => {
             let Some(stand) = found_again(graph, moved, *split)? else {
@@ -45,11 +70,13 @@ fn written(graph: &mut Graph, moved: &mut Moved, proof: &Proof) -> Result<Option
             for proof in proofs.as_slice() {
                 if stand.takes(choice) {
                     let mark = graph.mark();
-                    let known = moved.nodes.len();
-                    enter(graph, moved, &stand, choice)?;
-                    let tree = written(graph, moved, proof)?;
+                    let count = moved.nodes.len();
+                    let tree = match enter(graph, moved, &stand, choice)? {
+                        Some(clash) => Some(Closed::Clash(clash)),
+                        None => written(graph, known, moved, proof, depth - 1)?,
+                    };
                     graph.undo(mark)?;
-                    moved.nodes.truncate(known);
+                    moved.nodes.truncate(count);
                     match tree {
                         Some(found) => trees.push(found)?,
                         None => return Ok(None),
@@ -113,8 +140,8 @@ impl Stand {
 }
 
 fn shut(graph: &Graph, node: u64) -> Result<Option<Closed>, Memory> {
-    match graph.clash_from(node, 0)? {
-        Some(found) => Ok(Some(Closed::Clash(found.clash))),
+    match clash_of(graph.clash_from(node, 0)?) {
+        Some(clash) => Ok(Some(Closed::Clash(clash))),
         None => Ok(None),
     }
 }
@@ -186,15 +213,39 @@ fn next_to_get(graph: &Graph, candidate: Candidate, concept: u64) -> Option<u64>
     }
 }
 
-// Takes a choice of a step, if the step is needed.
-fn enter(graph: &mut Graph, moved: &mut Moved, stand: &Stand, choice: u64) -> Result<(), Memory> {
+// Takes a choice of a step, if the step is needed, and finds a clash that it makes.
+fn enter(
+    graph: &mut Graph,
+    moved: &mut Moved,
+    stand: &Stand,
+    choice: u64,
+) -> Result<Option<Clash>, Memory> {
     if stand.only.is_none() {
         if stand.split.rank == Rank::Some {
             moved
                 .nodes
                 .push((stand.split.made, graph.nodes.len() as u64))?;
         }
-        let _ = graph.take(stand.candidate, stand.other, choice, 0)?;
+        return Ok(clash_of(graph.take(stand.candidate, stand.other, choice, 0)?));
     }
-    Ok(())
+    if stand.split.rank == Rank::Some {
+        if !moved.knows(stand.split.made) {
+            if let Some(serving) = graph.serving(stand.candidate) {
+                moved.nodes.push((stand.split.made, serving))?;
+            }
+        }
+    }
+    Ok(None)
+}
+
+fn clash_of(found: Option<Found>) -> Option<Clash> {
+    match found {
+        Some(
+            Found {
+                cause: Cause::Clash(clash, _),
+                ..
+            },
+        ) => Some(clash),
+        _ => None,
+    }
 }

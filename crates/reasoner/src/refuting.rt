@@ -18,7 +18,7 @@ use wiki_base::Memory;
 const FIRST_BUDGET: u64 = 500;
 
 // How much may be looked at to make a part smaller.
-const MOST_LOOKS: u64 = 4_000_000;
+const MOST_LOOKS: u64 = 2_000_000;
 
 // What is said by axioms over names, and absorbed.
 #[derive(Clone, Copy)]

@@ -25,9 +25,15 @@ pub(crate) enum Ground {
 // What a class of a node asks of its neighbours by a role: to be in another class.
 #[derive(Clone, Copy, Debug, PartialEq, Eq)]
 pub(crate) struct Demand {
-    pub(crate) way: Way,
     pub(crate) part: usize,
     pub(crate) number: usize,
+}
+
+// What the classes of a node ask of its neighbours by one role.
+#[derive(Drop)]
+pub(crate) struct Demands {
+    pub(crate) way: Way,
+    pub(crate) list: Vec<Demand>,
 }
 
 #[derive(Drop)]
@@ -36,7 +42,9 @@ pub(crate) struct Spot {
     // Of each class, how long the list of changes was when it came; 0 of those that are missing.
     since: Vec<u32>,
     // What its classes ask of its neighbours.
-    pub(crate) demands: Vec<Demand>,
+    pub(crate) demands: Vec<Demands>,
+    // How many that is in all.
+    asked: usize,
     // Its classes that are complements of values.
     pub(crate) denied: Vec<usize>,
     // The edges that begin here, and those that end here.
@@ -114,30 +122,53 @@ pub(crate) struct Graph {
 impl Spot {
     fn note_demands(&mut self, terms: &Terms, number: usize) -> Result<(), Memory> {
         for sent in terms.sent(number) {
-            self.demands.push(Demand {
-                way: sent.0,
+            let demand = Demand {
                 part: sent.1,
                 number,
-            })?;
+            };
+            self.note_demand(sent.0, demand)?;
         }
-        if is_denied_value(terms, number) {
+        if terms.denied_value(number).is_some() {
             self.denied.push(number)?;
         }
         Ok(())
     }
 
-    // Takes back what the last class asks for.
-    fn drop_demands(&mut self, number: usize) {
-        for _ in 0..self.demands.len() {
-            match self.demands.last() {
-                Some(demand) if demand.number == number => {
-                    let _ = self.demands.pop();
-                }
-                _ => break,
+    fn note_demand(&mut self, way: Way, demand: Demand) -> Result<(), Memory> {
+        self.asked = self.asked.saturating_add(1);
+        if let Some(place) = self.demands.iter().position(|one| one.way == way) {
+            if let Some(demands) = self.demands.get_mut(place) {
+                demands.list.push(demand)?;
             }
+            return Ok(());
+        }
+        let mut list = Vec::new(*self.demands.allocator());
+        list.push(demand)?;
+        self.demands.push(Demands { way, list })?;
+        Ok(())
+    }
+
+    // Takes back what the last class asks for.
+    fn drop_demands(&mut self, terms: &Terms, number: usize) {
+        for sent in terms.sent(number) {
+            self.drop_demand(sent.0, number);
         }
         if self.denied.last() == Some(&number) {
             let _ = self.denied.pop();
+        }
+    }
+
+    fn drop_demand(&mut self, way: Way, number: usize) {
+        for demands in self.demands.iter_mut() {
+            if demands.way == way {
+                match demands.list.last() {
+                    Some(last) if last.number == number => {
+                        let _ = demands.list.pop();
+                        self.asked = self.asked.saturating_sub(1);
+                    }
+                    _ => {}
+                }
+            }
         }
     }
 }
@@ -179,6 +210,7 @@ impl Graph {
             label: Vec::new(self.alloc),
             since,
             demands: Vec::new(self.alloc),
+            asked: 0,
             denied: Vec::new(self.alloc),
             outgoing: Vec::new(self.alloc),
             incoming: Vec::new(self.alloc),
@@ -199,10 +231,26 @@ impl Graph {
         self.since(node, number) > 0
     }
 
-    pub(crate) fn demands(&self, node: usize) -> &[Demand] {
+    pub(crate) fn demands(&self, node: usize) -> &[Demands] {
         match self.nodes.get(node) {
             Some(spot) => spot.demands.as_slice(),
             None => &[],
+        }
+    }
+
+    // How much its classes ask of the neighbours of a node.
+    pub(crate) fn asked(&self, node: usize) -> usize {
+        match self.nodes.get(node) {
+            Some(spot) => spot.asked,
+            None => 0,
+        }
+    }
+
+    // What its classes ask of the neighbours of a node by the role at a place, one by one.
+    pub(crate) fn demand(&self, node: usize, place: usize, at: usize) -> Option<Demand> {
+        match self.demands(node).get(place) {
+            Some(demands) => demands.list.get(at).copied(),
+            None => None,
         }
     }
 
@@ -491,11 +539,11 @@ impl Graph {
     }
 
     // Takes back all changes but the first ones.
-    pub(crate) fn undo(&mut self, length: usize) {
+    pub(crate) fn undo(&mut self, terms: &Terms, length: usize) {
         for _ in length..self.trail.len() {
             if let Some(change) = self.trail.pop() {
                 match change.event {
-                    Event::Came(fact) => self.drop_fact(fact),
+                    Event::Came(fact) => self.drop_fact(terms, fact),
                     Event::Made(node) => self.set_there(node, false),
                 }
                 self.reasons.truncate(change.reasons);
@@ -503,9 +551,9 @@ impl Graph {
         }
     }
 
-    fn drop_fact(&mut self, fact: Fact) {
+    fn drop_fact(&mut self, terms: &Terms, fact: Fact) {
         match fact {
-            Fact::Class(node, number) => self.drop_class(node, number),
+            Fact::Class(node, number) => self.drop_class(terms, node, number),
             Fact::Edge(_) => self.drop_edge(),
             Fact::Shared(offer) => {
                 if let Some(entry) = self.offers.get_mut(offer) {
@@ -526,13 +574,13 @@ impl Graph {
         }
     }
 
-    fn drop_class(&mut self, node: usize, number: usize) {
+    fn drop_class(&mut self, terms: &Terms, node: usize, number: usize) {
         if let Some(spot) = self.nodes.get_mut(node) {
             let _ = spot.label.pop();
             if let Some(place) = spot.since.get_mut(number) {
                 *place = 0;
             }
-            spot.drop_demands(number);
+            spot.drop_demands(terms, number);
         }
         if let Some(nodes) = self.bearers.get_mut(number) {
             let _ = nodes.pop();
@@ -548,16 +596,5 @@ impl Graph {
                 let _ = spot.incoming.pop();
             }
         }
-    }
-}
-
-// Whether a class is the complement of a value.
-pub(crate) fn is_denied_value(terms: &Terms, number: usize) -> bool {
-    match terms.form(number) {
-        Form::Not(inner) => match terms.form(inner) {
-            Form::Value(_, _) => true,
-            _ => false,
-        },
-        _ => false,
     }
 }

@@ -103,12 +103,25 @@ impl Rules {
             rules.source = rules.source.saturating_add(1);
         }
         rules.complete(k)?;
+        rules.find_denied_values();
         match only {
             Some(_) => rules.note_spoken_of()?,
             None => rules.note_all()?,
         }
         rules.fill(only)?;
         Ok(rules)
+    }
+
+    // Finds of which values classes are the complements.
+    fn find_denied_values(&mut self) {
+        for number in 0..self.terms.len() {
+            if let Form::Not(inner) = self.terms.form(number) {
+                if let Form::Value(way, name) = self.terms.form(inner) {
+                    let node = self.node(name);
+                    self.terms.set_denied_value(number, way, node);
+                }
+            }
+        }
     }
 
     // Notes which nodes of names are in what each element is in.

@@ -38,6 +38,8 @@ pub(crate) struct Search {
     weights: Vec<u64>,
     chosen: Vec<usize>,
     gain: u64,
+    // What settled each union last: a class, and whether the union's node has it.
+    settlers: Vec<Option<(usize, bool)>>,
     // The node that was found last to serve a class of a node that asks for a successor.
     served: BTreeMap<(usize, usize), usize>,
     clashes: u64,
@@ -127,6 +129,7 @@ impl Search {
             weights,
             chosen,
             gain: 1,
+            settlers: Vec::new(alloc),
             served: BTreeMap::new(alloc),
             clashes: 0,
             patience: FIRST_PATIENCE,
@@ -169,7 +172,7 @@ impl Search {
                 edges.saturating_add(rules.terms.rules(number).len())
             }
             Fact::Edge(edge) => match self.graph.link(edge) {
-                Some(link) => self.graph.demands(link.to).len(),
+                Some(link) => self.graph.asked(link.to),
                 None => 0,
             },
             _ => 0,
@@ -188,11 +191,11 @@ impl Search {
             self.next = self.next.saturating_add(1);
             match change.event {
                 Event::Came(fact) => self.look_at(rules, fact)?,
-                Event::Made(node) => self.wake(node)?,
+                Event::Made(node) => self.wake(rules, node)?,
             }
             return Ok(true);
         }
-        if let Some((node, union)) = self.next_choice(rules) {
+        if let Some((node, union)) = self.next_choice(rules)? {
             self.choose(rules, node, union)?;
             return Ok(true);
         }
@@ -230,13 +233,16 @@ impl Search {
     }
 
     // What was known of a node before it stood for an element is to be looked at.
-    fn wake(&mut self, node: usize) -> Result<(), Memory> {
+    fn wake(&mut self, rules: &Rules, node: usize) -> Result<(), Memory> {
         let Some(spot) = self.graph.nodes.get(node) else {
             return Ok(());
         };
         for number in &spot.label {
-            self.graph.errands.push((node, *number))?;
-            self.graph.unions.push((node, *number))?;
+            match rules.terms.form(*number) {
+                Form::Some(_, _) => self.graph.errands.push((node, *number))?,
+                Form::Or(_) => self.graph.unions.push((node, *number))?,
+                _ => {}
+            }
         }
         Ok(())
     }
@@ -289,50 +295,82 @@ impl Search {
         }
     }
 
-    // Whether a node is gone, has a member of a union, or lacks a class word of which one is the complement.
-    fn is_settled(&self, rules: &Rules, node: usize, union: usize) -> bool {
+    // Whether the node of a union that stands at a place is gone, or the union is settled.
+    fn is_settled(
+        &mut self,
+        rules: &Rules,
+        place: usize,
+        node: usize,
+        union: usize,
+    ) -> Result<bool, Memory> {
         if !self.graph.is_there(node) {
-            return true;
+            return Ok(true);
         }
-        let parts = rules.terms.parts(union);
-        match rules.terms.form(union) {
-            Form::Or(_) => parts.iter().any(|part| self.graph.has(node, *part)
-                || self.is_free(rules, node, *part)),
-            _ => true,
+        if let Some(Some((number, is_had))) = self.settlers.get(place).copied() {
+            if self.graph.has(node, number) == is_had {
+                return Ok(true);
+            }
         }
+        let found = self.settler(rules, node, union);
+        if found.is_some() {
+            for _ in self.settlers.len()..=place {
+                self.settlers.push(None)?;
+            }
+            if let Some(settler) = self.settlers.get_mut(place) {
+                *settler = found;
+            }
+        }
+        Ok(found.is_some())
     }
 
-    // Whether a class is the complement of a class word that a node lacks.
-    fn is_free(&self, rules: &Rules, node: usize, number: usize) -> bool {
-        match rules.terms.form(number) {
-            Form::Not(inner) => is_word(rules, inner) && !self.graph.has(node, inner),
-            _ => false,
+    // What settles a union of a node: a member that the node has, or a class word that it lacks, of which a member is the complement. The
+    // class, and whether the node has it.
+    fn settler(&self, rules: &Rules, node: usize, union: usize) -> Option<(usize, bool)> {
+        for part in rules.terms.parts(union) {
+            if self.graph.has(node, *part) {
+                return Some((*part, true));
+            }
+            if let Form::Not(inner) = rules.terms.form(*part) {
+                if is_word(rules, inner) && !self.graph.has(node, inner) {
+                    return Some((inner, false));
+                }
+            }
         }
+        None
     }
 
     // The union of a node to choose of, if there is one.
-    fn next_choice(&mut self, rules: &Rules) -> Option<(usize, usize)> {
-        for _ in self.next_union..self.graph.unions.len() {
-            let (node, union) = self.graph.unions.get(self.next_union).copied()?;
-            if !self.is_settled(rules, node, union) {
-                break;
-            }
-            self.next_union = self.next_union.saturating_add(1);
-        }
+    fn next_choice(&mut self, rules: &Rules) -> Result<Option<(usize, usize)>, Memory> {
+        self.skip_settled(rules)?;
         let mut best = None;
         let mut most = 0;
         for place in self.next_union..self.graph.unions.len() {
             if place.saturating_sub(self.next_union) > MOST_COMPARED {
-                return best;
+                return Ok(best);
             }
-            let (node, union) = self.graph.unions.get(place).copied()?;
-            let weight = self.weight(union);
-            if (best.is_none() || weight > most) && !self.is_settled(rules, node, union) {
-                best = Some((node, union));
-                most = weight;
+            if let Some((node, union)) = self.graph.unions.get(place).copied() {
+                let weight = self.weight(union);
+                let is_better = best.is_none() || weight > most;
+                if is_better && !self.is_settled(rules, place, node, union)? {
+                    best = Some((node, union));
+                    most = weight;
+                }
             }
         }
-        best
+        Ok(best)
+    }
+
+    // Goes on to the first union that isn't settled.
+    fn skip_settled(&mut self, rules: &Rules) -> Result<(), Memory> {
+        for _ in self.next_union..self.graph.unions.len() {
+            if let Some((node, union)) = self.graph.unions.get(self.next_union).copied() {
+                if !self.is_settled(rules, self.next_union, node, union)? {
+                    return Ok(());
+                }
+            }
+            self.next_union = self.next_union.saturating_add(1);
+        }
+        Ok(())
     }
 
     fn weight(&self, union: usize) -> u64 {
@@ -445,11 +483,11 @@ impl Search {
                 let first = lesson.facts.first().copied();
                 let number = self.lessons.put(lesson)?;
                 self.clashes = self.clashes.saturating_add(1);
-                self.back_to(level);
+                self.back_to(rules, level);
                 if let Some(fact) = first {
                     self.deny(rules, number, fact)?;
                 }
-                self.rest();
+                self.rest(rules);
                 Ok(None)
             }
         }
@@ -508,11 +546,12 @@ impl Search {
     }
 
     // Goes back to where so many choices were made.
-    fn back_to(&mut self, count: usize) {
+    fn back_to(&mut self, rules: &Rules, count: usize) {
         if let Some(level) = self.levels.get(count).copied() {
-            self.graph.undo(level.trail);
+            self.graph.undo(&rules.terms, level.trail);
             self.graph.errands.truncate(level.errands);
             self.graph.unions.truncate(level.unions);
+            self.settlers.truncate(level.unions);
             self.next = level.trail;
             self.next_hot = level.next_hot;
             self.next_errand = level.next_errand;
@@ -522,13 +561,13 @@ impl Search {
     }
 
     // Ends a round after many clashes.
-    fn rest(&mut self) {
+    fn rest(&mut self, rules: &Rules) {
         if self.clashes >= self.patience && self.graph.clash.is_none() {
             self.patience = self
                 .clashes
                 .saturating_add(self.clashes / 2)
                 .saturating_add(FIRST_PATIENCE);
-            self.back_to(0);
+            self.back_to(rules, 0);
         }
     }
 }

@@ -73,11 +73,15 @@ impl Graph {
     fn wanted(&self, rules: &Rules, errand: Errand) -> Result<Vec<usize>, Memory> {
         let mut wanted = Vec::new(self.alloc);
         wanted.push(errand.part)?;
-        for demand in self.demands(errand.node) {
-            if rules.is_below(errand.way, demand.way) && !wanted.contains(&demand.part) {
-                wanted.push(demand.part)?;
+        for demands in self.demands(errand.node) {
+            if rules.is_below(errand.way, demands.way) {
+                for demand in &demands.list {
+                    wanted.push(demand.part)?;
+                }
             }
         }
+        wanted.as_mut_slice().sort_unstable();
+        wanted.dedup();
         Ok(wanted)
     }
 
@@ -169,12 +173,16 @@ impl Graph {
         }
         let mut back = 0_usize;
         let way = errand.way.inverse();
-        for demand in self.demands(other) {
-            if !self.has(node, demand.part) && rules.is_below(way, demand.way) {
-                if self.is_denied(rules, node, demand.part) {
-                    return None;
+        for demands in self.demands(other) {
+            if rules.is_below(way, demands.way) {
+                for demand in &demands.list {
+                    if !self.has(node, demand.part) {
+                        if self.is_denied(rules, node, demand.part) {
+                            return None;
+                        }
+                        back = back.saturating_add(1);
+                    }
                 }
-                back = back.saturating_add(1);
             }
         }
         if self.is_kept_apart(rules, node, errand.way, other)

@@ -1,5 +1,5 @@
 // What follows from a class of a node, and from an edge.
-use crate::graph::{Fact, Graph, Ground, is_denied_value};
+use crate::graph::{Fact, Graph, Ground};
 use crate::rules::{Rule, Rules};
 use crate::terms::{Form, Way};
 use wiki_base::Memory;
@@ -36,7 +36,7 @@ impl Graph {
         for sent in terms.sent(number) {
             self.send(rules, node, number, sent.0, sent.1)?;
         }
-        if is_denied_value(terms, number) {
+        if terms.denied_value(number).is_some() {
             self.test_value(rules, node, number)?;
         }
         for union in terms.watchers(number) {
@@ -252,14 +252,38 @@ impl Graph {
         way: Way,
         to: usize,
     ) -> Result<(), Memory> {
-        let above = rules.above(way);
         for place in 0..self.demands(from).len() {
-            if let Some(demand) = self.demands(from).get(place).copied() {
-                let is_meant = demand.way == way || above.contains(&demand.way);
-                if is_meant && !self.has(to, demand.part) {
-                    let reasons = [Fact::Class(from, demand.number), Fact::Edge(edge)];
-                    self.add(&rules.terms, to, demand.part, &reasons, Ground::Nothing)?;
-                }
+            if self.is_meant(rules, from, place, way) {
+                self.pass_all(rules, edge, (from, place), to)?;
+            }
+        }
+        Ok(())
+    }
+
+    // Whether what a node asks for at a place is asked of its neighbours by a role.
+    fn is_meant(&self, rules: &Rules, node: usize, place: usize, way: Way) -> bool {
+        match self.demands(node).get(place) {
+            Some(demands) => rules.is_below(way, demands.way),
+            None => false,
+        }
+    }
+
+    // Adds to a node what another one asks for at a place.
+    fn pass_all(
+        &mut self,
+        rules: &Rules,
+        edge: usize,
+        asked: (usize, usize),
+        to: usize,
+    ) -> Result<(), Memory> {
+        let (from, place) = asked;
+        for at in 0..self.asked(from) {
+            let Some(demand) = self.demand(from, place, at) else {
+                return Ok(());
+            };
+            if !self.has(to, demand.part) {
+                let reasons = [Fact::Class(from, demand.number), Fact::Edge(edge)];
+                self.add(&rules.terms, to, demand.part, &reasons, Ground::Nothing)?;
             }
         }
         Ok(())
@@ -287,7 +311,7 @@ impl Graph {
 
     // Finds the clash of the complement of a value with an edge.
     fn test_value(&mut self, rules: &Rules, node: usize, number: usize) -> Result<(), Memory> {
-        let Some((way, other)) = denied_value(rules, number) else {
+        let Some((way, other)) = rules.terms.denied_value(number) else {
             return Ok(());
         };
         if let Some(edge) = self.edge_by(rules, node, way, other) {
@@ -317,20 +341,9 @@ impl Graph {
     }
 }
 
-// The role and the node of a value that a class is the complement of.
-pub(crate) fn denied_value(rules: &Rules, number: usize) -> Option<(Way, usize)> {
-    match rules.terms.form(number) {
-        Form::Not(inner) => match rules.terms.form(inner) {
-            Form::Value(way, name) => Some((way, rules.node(name))),
-            _ => None,
-        },
-        _ => None,
-    }
-}
-
 // Whether a class is the complement of a value that a node by this role is.
 pub(crate) fn is_value(rules: &Rules, number: usize, way: Way, other: usize) -> bool {
-    match denied_value(rules, number) {
+    match rules.terms.denied_value(number) {
         Some((denied, node)) => node == other && rules.is_below(way, denied),
         None => false,
     }

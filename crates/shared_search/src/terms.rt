@@ -57,6 +57,8 @@ pub(crate) struct Term {
     pub(crate) opposed: Vec<usize>,
     // What an element of it asks of its neighbours.
     pub(crate) sent: Vec<(Way, usize)>,
+    // The role and the node of the value that it is the complement of.
+    denied: Option<(Way, usize)>,
 }
 
 // The classes by their numbers.
@@ -159,6 +161,7 @@ impl Terms {
             rules: Vec::new(self.alloc),
             opposed: Vec::new(self.alloc),
             sent: Vec::new(self.alloc),
+            denied: None,
         })?;
         let _ = self.numbers.insert(form, number)?;
         Ok(number)
@@ -270,6 +273,20 @@ impl Terms {
     fn set_parts(&mut self, number: usize, parts: Vec<usize>) {
         if let Some(term) = self.entries.get_mut(number) {
             term.parts = parts;
+        }
+    }
+
+    // The role and the node of the value that a class is the complement of.
+    pub(crate) fn denied_value(&self, number: usize) -> Option<(Way, usize)> {
+        match self.entries.get(number) {
+            Some(term) => term.denied,
+            None => None,
+        }
+    }
+
+    pub(crate) fn set_denied_value(&mut self, number: usize, way: Way, node: usize) {
+        if let Some(term) = self.entries.get_mut(number) {
+            term.denied = Some((way, node));
         }
     }
 

@@ -11,11 +11,12 @@ fail() {
     status=1
 }
 
-# Each crate has a line in docs/PROVED.md, and an edit that the gate must see refused where it has more than tests and `main`: one
-# of must-fail/, which rt ci tries, or one of edits/ that names its function, which tools/refused tries.
+# Each crate has a line in docs/PROVED.md, and an edit that the gate must see refused where it has more than definitions, tests and
+# `main`: one of must-fail/, which rt ci tries, or one of edits/ that names its function, which tools/refused tries.
 while read -r crate; do
     grep -q "\`$crate\`" docs/PROVED.md || fail "docs/PROVED.md doesn't speak of $crate"
     case "$crate" in *_examples | bench | acewiki) continue ;; esac
+    grep -qw fn "crates/$crate/src/"*.rt || continue
     ls "crates/$crate/must-fail/"*.edit >/dev/null 2>&1 || grep -qs '^function: ' "crates/$crate/edits/"*.edit ||
         fail "$crate has no edit in must-fail/ and none in edits/ that names its function"
 done < <(sed 's/#.*//' crates.txt | awk -F: 'NF > 1 { split($1, name, " "); print name[1] }')

@@ -110,7 +110,7 @@ answers_of_run first lines exchanges reached steps outside events last kept outs
   in_lines = run.in_lines;
   last = last;
   run = record { mid = reached; turns = steps.turns; steps = run.steps };
-  tokens = tokens_own_recalling first.wiki.state.pages.grammar;
+  tokens = tokens_own_recalling first.wiki.state.stored.grammar;
   journal = run.journal;
   responses = run.responses;
   whole = Delivers-whole (flat_map response_in run.handlings) outside.sent outside_after.sent outside.send_faults outside_after.send_faults run.responses;

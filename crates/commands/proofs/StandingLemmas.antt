@@ -7,6 +7,10 @@ use Rattle.wiki_base.specs.declared.text.TheConstants.{LONGEST_TEXT}
 use Rattle.wiki_io.specs.Lines.{text, input_lines}
 use Rattle.wiki_talk.specs.declared.requests.Request.{Request}
 use Rattle.wiki_talk.specs.declared.requests.Request.TheVariants as requests
+use Rattle.wiki_talk.specs.declared.requests.WikiRequest.TheVariants as of_wiki
+use Rattle.wiki_talk.specs.declared.requests.WordRequest.TheVariants as of_word
+use Rattle.wiki_talk.specs.declared.requests.ArticleRequest.TheVariants as of_article
+use Rattle.wiki_talk.specs.declared.requests.SessionRequest.TheVariants as of_session
 use Rattle.wiki_talk.specs.declared.requests.LineRequest.{LineRequest}
 use Rattle.wiki_talk.specs.declared.requests.LineRequest.TheVariants as lines
 use Rattle.wiki_talk.specs.declared.replies.Reply.{Reply}
@@ -36,50 +40,50 @@ use Rattle.commands.proofs.CompletenessLemmas.{does_what_is_free}
 
 same_itself : (r : Request) → itself r ≡ own_change r
 unfolding is_change
-same_itself (requests.Word kind forms) = refl
-same_itself (requests.Find word) = refl
-same_itself requests.Words = refl
-same_itself (requests.Parse sent) = refl
-same_itself (requests.Reword word forms) = refl
-same_itself (requests.Unword word) = refl
-same_itself (requests.Grammar sent) = refl
-same_itself (requests.Add article place sent) = refl
-same_itself (requests.Edit article place sent) = refl
-same_itself (requests.Remove article place) = refl
-same_itself (requests.Retract article place) = refl
-same_itself (requests.Reassert article place) = refl
-same_itself (requests.Read article) = refl
-same_itself (requests.Axioms article place) = refl
-same_itself (requests.Begin article) = refl
-same_itself (requests.Put session sent) = refl
-same_itself (requests.Back session) = refl
-same_itself (requests.Menu session) = refl
-same_itself (requests.Commit session) = refl
-same_itself (requests.Refresh session) = refl
-same_itself (requests.Drop session) = refl
+same_itself (requests.OnWiki (of_wiki.Word kind forms)) = refl
+same_itself (requests.OnWord word of_word.Find) = refl
+same_itself (requests.OnWiki of_wiki.Words) = refl
+same_itself (requests.OnWiki (of_wiki.Parse sent)) = refl
+same_itself (requests.OnWord word (of_word.Reword forms)) = refl
+same_itself (requests.OnWord word of_word.Unword) = refl
+same_itself (requests.OnWiki (of_wiki.Grammar sent)) = refl
+same_itself (requests.OnArticle article (of_article.Add place sent)) = refl
+same_itself (requests.OnArticle article (of_article.Edit place sent)) = refl
+same_itself (requests.OnArticle article (of_article.Remove place)) = refl
+same_itself (requests.OnArticle article (of_article.Retract place)) = refl
+same_itself (requests.OnArticle article (of_article.Reassert place)) = refl
+same_itself (requests.OnArticle article of_article.Read) = refl
+same_itself (requests.OnArticle article (of_article.Axioms place)) = refl
+same_itself (requests.OnArticle article of_article.Open) = refl
+same_itself (requests.OnSession session (of_session.Type sent)) = refl
+same_itself (requests.OnSession session of_session.Back) = refl
+same_itself (requests.OnSession session of_session.Menu) = refl
+same_itself (requests.OnSession session of_session.Commit) = refl
+same_itself (requests.OnSession session of_session.Refresh) = refl
+same_itself (requests.OnSession session of_session.Drop) = refl
 
 same_shown : (r : Request) (shown : List ℕ) → with_shown r shown ≡ shown_change r shown
-same_shown (requests.Word kind forms) shown = refl
-same_shown (requests.Find word) shown = refl
-same_shown requests.Words shown = refl
-same_shown (requests.Parse sent) shown = refl
-same_shown (requests.Reword word forms) shown = refl
-same_shown (requests.Unword word) shown = refl
-same_shown (requests.Grammar sent) shown = refl
-same_shown (requests.Add article place sent) shown = refl
-same_shown (requests.Edit article place sent) shown = refl
-same_shown (requests.Remove article place) shown = refl
-same_shown (requests.Retract article place) shown = refl
-same_shown (requests.Reassert article place) shown = refl
-same_shown (requests.Read article) shown = refl
-same_shown (requests.Axioms article place) shown = refl
-same_shown (requests.Begin article) shown = refl
-same_shown (requests.Put session sent) shown = refl
-same_shown (requests.Back session) shown = refl
-same_shown (requests.Menu session) shown = refl
-same_shown (requests.Commit session) shown = refl
-same_shown (requests.Refresh session) shown = refl
-same_shown (requests.Drop session) shown = refl
+same_shown (requests.OnWiki (of_wiki.Word kind forms)) shown = refl
+same_shown (requests.OnWord word of_word.Find) shown = refl
+same_shown (requests.OnWiki of_wiki.Words) shown = refl
+same_shown (requests.OnWiki (of_wiki.Parse sent)) shown = refl
+same_shown (requests.OnWord word (of_word.Reword forms)) shown = refl
+same_shown (requests.OnWord word of_word.Unword) shown = refl
+same_shown (requests.OnWiki (of_wiki.Grammar sent)) shown = refl
+same_shown (requests.OnArticle article (of_article.Add place sent)) shown = refl
+same_shown (requests.OnArticle article (of_article.Edit place sent)) shown = refl
+same_shown (requests.OnArticle article (of_article.Remove place)) shown = refl
+same_shown (requests.OnArticle article (of_article.Retract place)) shown = refl
+same_shown (requests.OnArticle article (of_article.Reassert place)) shown = refl
+same_shown (requests.OnArticle article of_article.Read) shown = refl
+same_shown (requests.OnArticle article (of_article.Axioms place)) shown = refl
+same_shown (requests.OnArticle article of_article.Open) shown = refl
+same_shown (requests.OnSession session (of_session.Type sent)) shown = refl
+same_shown (requests.OnSession session of_session.Back) shown = refl
+same_shown (requests.OnSession session of_session.Menu) shown = refl
+same_shown (requests.OnSession session of_session.Commit) shown = refl
+same_shown (requests.OnSession session of_session.Refresh) shown = refl
+same_shown (requests.OnSession session of_session.Drop) shown = refl
 
 same_changes : (r : Request) (reply : Reply) → changes_told r reply ≡ changes_by r reply
 same_changes r replies.Word = same_itself r
@@ -95,8 +99,8 @@ same_changes r (replies.Retract status) = same_itself r
 same_changes r (replies.Reassert status) = same_itself r
 same_changes r (replies.Read form revision sentences) = same_itself r
 same_changes r (replies.Axioms meant) = same_itself r
-same_changes r (replies.Begin session) = same_itself r
-same_changes r (replies.Put tokens) = same_itself r
+same_changes r (replies.Open session) = same_itself r
+same_changes r (replies.Type tokens) = same_itself r
 same_changes r (replies.Back tokens) = same_itself r
 same_changes r (replies.Menu menu whole shown) = same_itself r
 same_changes r (replies.Commit article status shown) = refl
@@ -141,35 +145,38 @@ one_number : (n : ℕ) → n ≤ LAST_NUMBER → All (λ n. n ≤ LAST_NUMBER) (
 one_number n is = All-cons (λ n. n ≤ LAST_NUMBER) n [] is no_number
 
 told_if_fits : (r : Request) → FitsLine r × InLine r → IsToldChange r
-told_if_fits (requests.Word kind forms) ((plain, place), in_line) =
+told_if_fits (requests.OnWiki (of_wiki.Word kind forms)) ((plain, place), in_line) =
     (record { texts = forms_utf8 forms plain.0; numbers = no_number }, (forms_short forms plain.0, plain.1))
-told_if_fits (requests.Find word) ((plain, place), in_line) = absurd plain
-told_if_fits requests.Words ((plain, place), in_line) = absurd plain
-told_if_fits (requests.Parse sent) ((plain, place), in_line) = absurd plain
-told_if_fits (requests.Reword word forms) ((plain, place), in_line) = (
+told_if_fits (requests.OnWord word of_word.Find) ((plain, place), in_line) = absurd plain
+told_if_fits (requests.OnWiki of_wiki.Words) ((plain, place), in_line) = absurd plain
+told_if_fits (requests.OnWiki (of_wiki.Parse sent)) ((plain, place), in_line) = absurd plain
+told_if_fits (requests.OnWord word (of_word.Reword forms)) ((plain, place), in_line) = (
   record { texts = All-cons IsUtf8 word forms plain.0.0 (forms_utf8 forms plain.1.0); numbers = no_number },
   (plain.0.1, (forms_short forms plain.1.0, plain.1.1)),
 )
-told_if_fits (requests.Unword word) ((plain, place), in_line) = (record { texts = one_text word plain.0; numbers = no_number }, plain.1)
-told_if_fits (requests.Grammar sent) ((plain, place), in_line) = (record { texts = one_text sent plain; numbers = no_number }, in_line)
-told_if_fits (requests.Add article None sent) ((plain, place), in_line) =
+told_if_fits (requests.OnWord word of_word.Unword) ((plain, place), in_line) = (record { texts = one_text word plain.0; numbers = no_number }, plain.1)
+told_if_fits (requests.OnWiki (of_wiki.Grammar sent)) ((plain, place), in_line) = (record { texts = one_text sent plain; numbers = no_number }, in_line)
+told_if_fits (requests.OnArticle article (of_article.Add None sent)) ((plain, place), in_line) =
     (record { texts = two_texts article sent plain.0.0 plain.1.0; numbers = no_number }, (plain.0.1, plain.1.1))
-told_if_fits (requests.Add article (Some at) sent) ((plain, place), in_line) =
+told_if_fits (requests.OnArticle article (of_article.Add (Some at) sent)) ((plain, place), in_line) =
     (record { texts = two_texts article sent plain.0.0 plain.1.0; numbers = one_number at place }, (plain.0.1, plain.1.1))
-told_if_fits (requests.Edit article at sent) ((plain, place), in_line) =
+told_if_fits (requests.OnArticle article (of_article.Edit at sent)) ((plain, place), in_line) =
     (record { texts = two_texts article sent plain.0.0 plain.1.0; numbers = one_number at place }, (plain.0.1, plain.1.1))
-told_if_fits (requests.Remove article at) ((plain, place), in_line) = (record { texts = one_text article plain.0; numbers = one_number at place }, plain.1)
-told_if_fits (requests.Retract article at) ((plain, place), in_line) = (record { texts = one_text article plain.0; numbers = one_number at place }, plain.1)
-told_if_fits (requests.Reassert article at) ((plain, place), in_line) = (record { texts = one_text article plain.0; numbers = one_number at place }, plain.1)
-told_if_fits (requests.Read article) ((plain, place), in_line) = absurd plain
-told_if_fits (requests.Axioms article place) ((plain, at), in_line) = absurd plain
-told_if_fits (requests.Begin article) ((plain, place), in_line) = absurd plain
-told_if_fits (requests.Put session sent) ((plain, place), in_line) = absurd plain
-told_if_fits (requests.Back session) ((plain, place), in_line) = absurd plain
-told_if_fits (requests.Menu session) ((plain, place), in_line) = absurd plain
-told_if_fits (requests.Commit session) ((plain, place), in_line) = absurd plain
-told_if_fits (requests.Refresh session) ((plain, place), in_line) = absurd plain
-told_if_fits (requests.Drop session) ((plain, place), in_line) = absurd plain
+told_if_fits (requests.OnArticle article (of_article.Remove at)) ((plain, place), in_line) =
+    (record { texts = one_text article plain.0; numbers = one_number at place }, plain.1)
+told_if_fits (requests.OnArticle article (of_article.Retract at)) ((plain, place), in_line) =
+    (record { texts = one_text article plain.0; numbers = one_number at place }, plain.1)
+told_if_fits (requests.OnArticle article (of_article.Reassert at)) ((plain, place), in_line) =
+    (record { texts = one_text article plain.0; numbers = one_number at place }, plain.1)
+told_if_fits (requests.OnArticle article of_article.Read) ((plain, place), in_line) = absurd plain
+told_if_fits (requests.OnArticle article (of_article.Axioms place)) ((plain, at), in_line) = absurd plain
+told_if_fits (requests.OnArticle article of_article.Open) ((plain, place), in_line) = absurd plain
+told_if_fits (requests.OnSession session (of_session.Type sent)) ((plain, place), in_line) = absurd plain
+told_if_fits (requests.OnSession session of_session.Back) ((plain, place), in_line) = absurd plain
+told_if_fits (requests.OnSession session of_session.Menu) ((plain, place), in_line) = absurd plain
+told_if_fits (requests.OnSession session of_session.Commit) ((plain, place), in_line) = absurd plain
+told_if_fits (requests.OnSession session of_session.Refresh) ((plain, place), in_line) = absurd plain
+told_if_fits (requests.OnSession session of_session.Drop) ((plain, place), in_line) = absurd plain
 
 -- both hold of each
 all_both : {X : Type 0} (P Q : X → Type 0) (xs : List X) → All P xs → All Q xs → All (λ x. P x × Q x) xs

@@ -7,7 +7,7 @@ use Rattle.wiki_talk.specs.declared.replies.Reply.{Reply}
 use Rattle.wiki_talk.specs.Turns.{Exchange, request_in, Turns}
 use Rattle.wire_json.specs.Told.{ended, most_for}
 use Rattle.serving.specs.Handling.{Handling, replied, exchange_in, journal_in, CameInLine}
-use Rattle.wiki_core.specs.Journaled.{SpendsNone, StandAlike}
+use Rattle.wiki_core.specs.Journaled.{SpendsNone}
 use Rattle.turning.specs.Laws.{IsRun, GiveUnraised, exchange_of, exchanges_of}
 use Rattle.commands.specs.Lines.{asked}
 use Rattle.commands.specs.Wiki.{Holding, Recalling, KeptTurn, new_wiki}
@@ -26,7 +26,7 @@ StandsAsRead =
     → map request_in again ≡ map asked (input_lines (ended former ++ flat_map journal_in handlings))
     → Turns KeptTurn (new_wiki its_budget) again its_last
     → SpendsNone (exchanges_of of_lines (flat_map exchange_in handlings)) → SpendsNone (map exchange_of again)
-    → StandAlike last.state.pages its_last.wiki.state.pages
+    → its_last.wiki.state.stored ≡ last.state.stored
 
 -- the most bytes that an event may write to the journal: those of the line of what was asked
 abbrev pub most_written : Handling → ℕ

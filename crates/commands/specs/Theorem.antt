@@ -139,7 +139,7 @@ pub record AnswersAsPlainWiki (first : Recalling) (lines : List InputLine) (outs
   pub last : Holding
   pub run : IsRun first of_lines (flat_map exchange_in handlings) last
   pub in_lines : All CameInLine handlings
-  pub tokens : TokensAreOwn first.wiki.state.pages.grammar
+  pub tokens : TokensAreOwn first.wiki.state.stored.grammar
   pub journal : Appends outside.journal outside_after.journal (flat_map journal_in handlings)
   pub responses : Delivers (flat_map response_in handlings) outside.sent outside.send_faults outside_after.sent outside_after.send_faults
   pub whole : ¬ Rose outside.send_faults outside_after.send_faults → (n : ℕ) (sent sent_after : List (ℕ × List ℕ)) → outside.sent ≡ Some sent
@@ -244,15 +244,15 @@ pub record Retells (IsText : Holding → List ℕ → Type 0) (first : Recalling
 
 -- `say`: the lines of all that the wiki knows
 abbrev pub IsSaid : Holding → List ℕ → Type 0
-IsSaid wiki text = SaysAll wiki.state.pages text
+IsSaid wiki text = SaysAll wiki.state.stored text
 
 -- `export`: the file of the words and of all that the wiki knows
 abbrev pub IsFile : Holding → List ℕ → Type 0
-IsFile wiki text = TellsFile wiki.state.pages text
+IsFile wiki text = TellsFile wiki.state.stored text
 
 -- `why`: what is told of the sentence at a place of an article, or of that and a name
 abbrev pub IsWhy : ℕ → List ℕ → ℕ → Option (List ℕ) → Holding → List ℕ → Type 0
-IsWhy budget article at name wiki text = TellsWhy wiki.state.pages budget article at name text
+IsWhy budget article at name wiki text = TellsWhy wiki.state.stored budget article at name text
 
 -- ---- files
 

@@ -26,7 +26,7 @@ impl Model for RecallingWiki {
 
     ghost view = { λ w. recalling w.wiki w.history };
 
-    ghost invariant = { λ w. FitsHistory w.wiki.state.pages w.history };
+    ghost invariant = { λ w. FitsHistory w.wiki.state.stored w.history };
 }
 
 impl RecallingWiki {

@@ -49,9 +49,9 @@ impl AceWiki {
         history: &mut History,
         request: &LineRequest,
     ) -> Result<Reply, Memory>
-        requires { FitsHistory self.old.state.pages history.old }
+        requires { FitsHistory self.old.state.stored history.old }
         ensures turn { IfOk result (λ reply. KeptTurn (recalling self.old history.old) request.now reply (recalling self.new history.new)) }
-        ensures fits { FitsHistory self.new.state.pages history.new }
+        ensures fits { FitsHistory self.new.state.stored history.new }
         ensures wiki { OnErr result (self.new ≡ self.old) }
         ensures history { OnErr result (history.new ≡ history.old) }
     {

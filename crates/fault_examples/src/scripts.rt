@@ -10,7 +10,7 @@ use std::collections::VecDeque;
 use std::test::Fail;
 use wiki_base::{Bytes, Memory};
 use wiki_io::{Event, Fails, MemoryLink, MemorySink};
-use wiki_talk::{Refusal, Reply, Request};
+use wiki_talk::{Refusal, Reply, Request, WikiRequest};
 
 // How many bytes of a response the link takes at once.
 pub(crate) const SENT_AT_ONCE: usize = 100;
@@ -133,10 +133,10 @@ impl Machine for Desk {
 
     fn step(&mut self, request: &Request) -> Result<Reply, Memory> {
         match request {
-            Request::Words => Ok(Reply::Words {
+            Request::OnWiki(WikiRequest::Words) => Ok(Reply::Words {
                 words: List::new(self.alloc),
             }),
-            Request::Word { .. } if !self.is_taken => {
+            Request::OnWiki(WikiRequest::Word { .. }) if !self.is_taken => {
                 self.is_taken = true;
                 Ok(Reply::Word)
             }

@@ -3,7 +3,7 @@ use http_front::{Begun, Front, Own, Seen, Then, Verb};
 use std::alloc::Global;
 use std::test::Fail;
 use wiki_base::Memory;
-use wiki_talk::Request;
+use wiki_talk::{ArticleRequest, Request, SessionRequest, WikiRequest};
 
 // What a request asks for stands for itself where it is whole.
 pub(crate) const ASKED: u16 = 200;
@@ -90,18 +90,20 @@ fn refusal(alloc: Global, status: u16, is_post: bool, is_line: bool) -> Result<S
 // A request that some tests ask, and the path to which its response leads.
 fn asked(alloc: Global, request: &Request, path: &str) -> Result<String, Memory> {
     match request {
-        Request::Put { session, text } => {
+        Request::OnSession {
+            session,
+            asked: SessionRequest::Type { text },
+        } => {
             let text = text.as_str();
             Ok(format!(in alloc; "put '{text}' in {session}, and go to {path}")?)
         }
-        Request::Word { forms, .. } => {
+        Request::OnWiki(WikiRequest::Word { forms, .. }) => {
             let count = forms.as_slice().len();
             Ok(format!(in alloc; "a word of {count} forms, and go to {path}")?)
         }
-        Request::Add {
+        Request::OnArticle {
             article,
-            at: None,
-            text,
+            asked: ArticleRequest::Add { at: None, text },
         } => added(alloc, article.as_str(), text.as_str(), path),
         _ => Ok(String::from_str(alloc, "something else is asked")?),
     }

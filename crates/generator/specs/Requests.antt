@@ -4,19 +4,21 @@ use Rattle.std.specs.List.{range_with_len}
 use Rattle.lexicon.specs.declared.kinds.Kind.TheVariants as kinds
 use Rattle.wiki_talk.specs.declared.requests.Request.{Request}
 use Rattle.wiki_talk.specs.declared.requests.Request.TheVariants as requests
+use Rattle.wiki_talk.specs.declared.requests.WikiRequest.TheVariants as of_wiki
+use Rattle.wiki_talk.specs.declared.requests.ArticleRequest.TheVariants as of_article
 use Rattle.generator.specs.Drawn.{next_draw, noun, nouns, name, verb, verbs, verbed}
 
 -- ---- words
 
 -- the request for a noun, a name or a verb, by the number of its letter
 abbrev pub noun_request : ℕ → Request
-noun_request n = requests.Word kinds.Noun (noun n ∷ nouns n ∷ [])
+noun_request n = requests.OnWiki (of_wiki.Word kinds.Noun (noun n ∷ nouns n ∷ []))
 
 abbrev pub name_request : ℕ → Request
-name_request n = requests.Word kinds.Name (name n ∷ [])
+name_request n = requests.OnWiki (of_wiki.Word kinds.Name (name n ∷ []))
 
 abbrev pub verb_request : ℕ → Request
-verb_request n = requests.Word kinds.Verb (verbs n ∷ verb n ∷ verbed n ∷ [])
+verb_request n = requests.OnWiki (of_wiki.Word kinds.Verb (verbs n ∷ verb n ∷ verbed n ∷ []))
 
 -- the word with the number, from 0: twenty nouns, twenty names and ten verbs
 abbrev pub word_request : ℕ → Request
@@ -29,7 +31,7 @@ word_requests = map word_request (range_with_len 0 50)
 
 -- a sentence at the end of the article of this word
 abbrev pub at_end : List ℕ → List ℕ → Request
-at_end word text = requests.Add word None text
+at_end word text = requests.OnArticle word (of_article.Add None text)
 
 -- two names are related
 abbrev pub related : ℕ → ℕ → ℕ → Request
@@ -78,7 +80,7 @@ word_form n = if nat_lt n 20 then noun n else (if nat_lt n 40 then name (n - 20)
 
 -- the article of the word with the number
 abbrev pub read_request : ℕ → Request
-read_request n = requests.Read (word_form n)
+read_request n = requests.OnArticle (word_form n) of_article.Read
 
 -- each article once, in order of the numbers of their words
 abbrev pub read_requests : List Request

@@ -9,7 +9,7 @@ use crate::drawn::{name, noun, nouns, verb, verbed, verbs};
 use lexicon::Kind;
 use std::alloc::Global;
 use wiki_base::{Memory, Text8, Text8s};
-use wiki_talk::Request;
+use wiki_talk::{ArticleRequest, Request, WikiRequest};
 
 // Forms that begin with this one.
 fn one_form(alloc: Global, form: String) -> Result<Text8s, Memory>
@@ -34,10 +34,10 @@ fn noun_request(alloc: Global, number: u32) -> Result<Request, Memory>
 {
     let singular = one_form(alloc, noun(alloc, number)?)?;
     let forms = with_form(singular, nouns(alloc, number)?)?;
-    Ok(Request::Word {
+    Ok(Request::OnWiki(WikiRequest::Word {
         kind: Kind::Noun,
         forms,
-    })
+    }))
 }
 
 fn name_request(alloc: Global, number: u32) -> Result<Request, Memory>
@@ -45,10 +45,10 @@ fn name_request(alloc: Global, number: u32) -> Result<Request, Memory>
     ensures { IfOk result (λ request. request ≡ made.name_request number) }
 {
     let forms = one_form(alloc, name(alloc, number)?)?;
-    Ok(Request::Word {
+    Ok(Request::OnWiki(WikiRequest::Word {
         kind: Kind::Name,
         forms,
-    })
+    }))
 }
 
 fn verb_request(alloc: Global, number: u32) -> Result<Request, Memory>
@@ -58,10 +58,10 @@ fn verb_request(alloc: Global, number: u32) -> Result<Request, Memory>
     let third = one_form(alloc, verbs(alloc, number)?)?;
     let infinitive = with_form(third, verb(alloc, number)?)?;
     let forms = with_form(infinitive, verbed(alloc, number)?)?;
-    Ok(Request::Word {
+    Ok(Request::OnWiki(WikiRequest::Word {
         kind: Kind::Verb,
         forms,
-    })
+    }))
 }
 
 /// The request for the word with the number, which is below 50: twenty nouns, twenty names and ten verbs.
@@ -81,10 +81,12 @@ pub fn word_request(alloc: Global, number: u32) -> Result<Request, Memory>
 fn at_end(word: String, text: String) -> Request
     ensures { result ≡ made.at_end (string_bytes word) (string_bytes text) }
 {
-    Request::Add {
+    Request::OnArticle {
         article: Text8::from_string(word),
-        at: None,
-        text: Text8::from_string(text),
+        asked: ArticleRequest::Add {
+            at: None,
+            text: Text8::from_string(text),
+        },
     }
 }
 
@@ -197,7 +199,8 @@ pub fn read_request(alloc: Global, number: u32) -> Result<Request, Memory>
     requires { number < 50 }
     ensures { IfOk result (λ request. request ≡ made.read_request number) }
 {
-    Ok(Request::Read {
+    Ok(Request::OnArticle {
         article: Text8::from_string(word(alloc, number)?),
+        asked: ArticleRequest::Read,
     })
 }

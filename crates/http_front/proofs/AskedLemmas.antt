@@ -3,12 +3,14 @@ use Rattle.std.proofs.Common.{◌≡◌, ℕ, Bool, true, false, if◌then◌els
 use Rattle.wiki_talk.specs.Kinds.{kind_named}
 use Rattle.wiki_talk.specs.declared.requests.Request.{Request}
 use Rattle.wiki_talk.specs.declared.requests.Request.TheVariants as requests
+use Rattle.wiki_talk.specs.declared.requests.ArticleRequest.{ArticleRequest}
+use Rattle.wiki_talk.specs.declared.requests.ArticleRequest.TheVariants as of_article
 use Rattle.wire_json.specs.Requests.{request_of}
 use Rattle.wire_json.specs.Told.{gives_line}
 use Rattle.http_front.specs.declared.goals.Goal.{Goal}
 use Rattle.http_front.specs.declared.goals.Goal.TheVariants.{Index, NewWord, Line, Article, Session, Editor, EditorFile}
 use Rattle.http_front.specs.declared.goals.OnArticle.{OnArticle}
-use Rattle.http_front.specs.declared.goals.OnArticle.TheVariants as on_article
+use Rattle.http_front.specs.declared.goals.OnArticle.TheVariants as goals
 use Rattle.http_front.specs.declared.goals.InSession.{InSession}
 use Rattle.http_front.specs.declared.goals.InSession.TheVariants as in_session
 use Rattle.http_front.specs.declared.seen.Then.{Then}
@@ -20,7 +22,7 @@ use Rattle.http_front.specs.declared.seen.Begun.TheVariants as begun
 use Rattle.http_front.specs.declared.seen.Seen.{Seen}
 use Rattle.http_front.specs.declared.seen.Seen.TheVariants as seen
 use Rattle.http_front.specs.Forms.{field, number_field}
-use Rattle.http_front.specs.Asked.{word_asked, add_asked, edit_asked, place_asked, article_asked, put_asked, session_asked, line_asked, asked}
+use Rattle.http_front.specs.Asked.{word_asked, add_asked, edit_asked, place_asked, article_asked, type_asked, session_asked, line_asked, asked}
 use Rattle.http_front.specs.Front.{Sees, seen_of, seen_with, seen_after, seen_by, AsksInLine}
 
 -- ---- what a body asks
@@ -49,27 +51,26 @@ edit_in_line : (word body : List ℕ) → IfSome (edit_asked word body) InLine
 unfolding edit_asked
 edit_in_line word body = chained _ (number_field (codes "at") body) (λ place. mapped _ (field (codes "text") body) (λ text. refl))
 
-place_in_line : (request : ℕ → Request) (word body : List ℕ) → ((place : ℕ) → IsTrue (gives_line (request place)))
-    → IfSome (place_asked request word body) InLine
+place_in_line : (asked : ℕ → ArticleRequest) (word body : List ℕ) → IfSome (place_asked asked word body) InLine
 unfolding place_asked
-place_in_line request word body each = mapped _ (number_field (codes "at") body) each
+place_in_line asked word body = mapped _ (number_field (codes "at") body) (λ place. refl)
 
 article_in_line : (on_it : OnArticle) (word body : List ℕ) → IfSome (article_asked on_it word body) InLine
-article_in_line on_article.Read word body = refl
-article_in_line on_article.Add word body = add_in_line word body
-article_in_line on_article.Edit word body = edit_in_line word body
-article_in_line on_article.Remove word body = place_in_line (requests.Remove word) word body (λ place. refl)
-article_in_line on_article.Retract word body = place_in_line (requests.Retract word) word body (λ place. refl)
-article_in_line on_article.Reassert word body = place_in_line (requests.Reassert word) word body (λ place. refl)
-article_in_line on_article.Begin word body = refl
+article_in_line goals.Read word body = refl
+article_in_line goals.Add word body = add_in_line word body
+article_in_line goals.Edit word body = edit_in_line word body
+article_in_line goals.Remove word body = place_in_line of_article.Remove word body
+article_in_line goals.Retract word body = place_in_line of_article.Retract word body
+article_in_line goals.Reassert word body = place_in_line of_article.Reassert word body
+article_in_line goals.Open word body = refl
 
-put_in_line : (session : ℕ) (body : List ℕ) → IfSome (put_asked session body) InLine
-unfolding put_asked
-put_in_line session body = mapped _ (field (codes "token") body) (λ text. refl)
+type_in_line : (session : ℕ) (body : List ℕ) → IfSome (type_asked session body) InLine
+unfolding type_asked
+type_in_line session body = mapped _ (field (codes "token") body) (λ text. refl)
 
 session_in_line : (in_it : InSession) (session : ℕ) (body : List ℕ) → IfSome (session_asked in_it session body) InLine
 session_in_line in_session.Menu session body = refl
-session_in_line in_session.Put session body = put_in_line session body
+session_in_line in_session.Type session body = type_in_line session body
 session_in_line in_session.Back session body = refl
 session_in_line in_session.Refresh session body = refl
 session_in_line in_session.Commit session body = refl

@@ -1,14 +1,14 @@
 // What is asked of the wiki at each path.
 ghost use Rattle.std.specs.Prelude.{◌≡◌, IfOk, Some, codes};
 ghost use Rattle.http_front.specs.Forms.{session_path};
-ghost use Rattle.http_front.specs.Asked.{word_asked, add_asked, edit_asked, place_asked, article_asked, put_asked, session_asked, line_asked, asked};
+ghost use Rattle.http_front.specs.Asked.{word_asked, add_asked, edit_asked, place_asked, article_asked, type_asked, session_asked, line_asked, asked};
 
 use crate::forms::{article_path, field, number_field, pieces, session_path};
 use crate::goals::{Goal, InSession, OnArticle};
 use crate::seen::Then;
 use std::alloc::Global;
 use wiki_base::{Memory, Text8};
-use wiki_talk::{Request, kind_named};
+use wiki_talk::{ArticleRequest, Request, SessionRequest, WikiRequest, kind_named};
 use wire_json::{gives_line, read_request};
 
 // A request, and the response when it is done.
@@ -25,7 +25,7 @@ pub(crate) fn asked(
     ensures { IfOk result (λ found. found ≡ asked goal word.now session body.now) }
 {
     match goal {
-        Goal::Index => Ok(Some((Request::Words, Then::Page(0)))),
+        Goal::Index => Ok(Some((Request::OnWiki(WikiRequest::Words), Then::Page(0)))),
         Goal::NewWord => word_asked(alloc, body),
         Goal::Line => line_asked(alloc, body),
         Goal::Article(on_it) => article_asked(alloc, on_it, word, body),
@@ -62,7 +62,7 @@ fn word_asked(alloc: Global, body: &[u8]) -> Result<Asked, Memory>
         Some(text) => {
             let forms = pieces(alloc, text.as_str())?;
             Ok(Some((
-                Request::Word { kind, forms },
+                Request::OnWiki(WikiRequest::Word { kind, forms }),
                 Then::Go(Text8::from_str(alloc, "/")?),
             )))
         }
@@ -80,22 +80,34 @@ fn article_asked(alloc: Global, on_it: OnArticle, word: &str, body: &[u8]) -> Re
         OnArticle::Remove => remove_asked(alloc, word, body),
         OnArticle::Retract => retract_asked(alloc, word, body),
         OnArticle::Reassert => reassert_asked(alloc, word, body),
-        OnArticle::Begin => begin_asked(alloc, word),
+        OnArticle::Open => open_asked(alloc, word),
     }
 }
 
 fn read_asked(alloc: Global, word: &str) -> Result<Asked, Memory>
-    ensures { IfOk result (λ found. found ≡ Some (Request.Read word.now, Then.Page 0)) }
+    ensures { IfOk result (λ found. found ≡ Some (Request.OnArticle word.now ArticleRequest.Read, Then.Page 0)) }
 {
     let article = Text8::from_str(alloc, word)?;
-    Ok(Some((Request::Read { article }, Then::Page(0))))
+    Ok(Some((
+        Request::OnArticle {
+            article,
+            asked: ArticleRequest::Read,
+        },
+        Then::Page(0),
+    )))
 }
 
-fn begin_asked(alloc: Global, word: &str) -> Result<Asked, Memory>
-    ensures { IfOk result (λ found. found ≡ Some (Request.Begin word.now, Then.GoSession)) }
+fn open_asked(alloc: Global, word: &str) -> Result<Asked, Memory>
+    ensures { IfOk result (λ found. found ≡ Some (Request.OnArticle word.now ArticleRequest.Open, Then.GoSession)) }
 {
     let article = Text8::from_str(alloc, word)?;
-    Ok(Some((Request::Begin { article }, Then::GoSession)))
+    Ok(Some((
+        Request::OnArticle {
+            article,
+            asked: ArticleRequest::Open,
+        },
+        Then::GoSession,
+    )))
 }
 
 #[tactic(auto, unfolding(crate::specs::Asked::add_asked))]
@@ -107,10 +119,9 @@ fn add_asked(alloc: Global, word: &str, body: &[u8]) -> Result<Asked, Memory>
             let article = Text8::from_str(alloc, word)?;
             let back = article_path(alloc, word)?;
             Ok(Some((
-                Request::Add {
+                Request::OnArticle {
                     article,
-                    at: None,
-                    text,
+                    asked: ArticleRequest::Add { at: None, text },
                 },
                 Then::Go(back),
             )))
@@ -130,7 +141,13 @@ fn edit_asked(alloc: Global, word: &str, body: &[u8]) -> Result<Asked, Memory>
         Some(text) => {
             let article = Text8::from_str(alloc, word)?;
             let back = article_path(alloc, word)?;
-            Ok(Some((Request::Edit { article, at, text }, Then::Go(back))))
+            Ok(Some((
+                Request::OnArticle {
+                    article,
+                    asked: ArticleRequest::Edit { at, text },
+                },
+                Then::Go(back),
+            )))
         }
         None => Ok(None),
     }
@@ -138,38 +155,56 @@ fn edit_asked(alloc: Global, word: &str, body: &[u8]) -> Result<Asked, Memory>
 
 #[tactic(auto, unfolding(crate::specs::Asked::place_asked))]
 fn remove_asked(alloc: Global, word: &str, body: &[u8]) -> Result<Asked, Memory>
-    ensures { IfOk result (λ found. found ≡ place_asked (Request.Remove word.now) word.now body.now) }
+    ensures { IfOk result (λ found. found ≡ place_asked ArticleRequest.Remove word.now body.now) }
 {
     let Some(at) = number_field(alloc, body, "at")? else {
         return Ok(None);
     };
     let article = Text8::from_str(alloc, word)?;
     let back = article_path(alloc, word)?;
-    Ok(Some((Request::Remove { article, at }, Then::Go(back))))
+    Ok(Some((
+        Request::OnArticle {
+            article,
+            asked: ArticleRequest::Remove { at },
+        },
+        Then::Go(back),
+    )))
 }
 
 #[tactic(auto, unfolding(crate::specs::Asked::place_asked))]
 fn retract_asked(alloc: Global, word: &str, body: &[u8]) -> Result<Asked, Memory>
-    ensures { IfOk result (λ found. found ≡ place_asked (Request.Retract word.now) word.now body.now) }
+    ensures { IfOk result (λ found. found ≡ place_asked ArticleRequest.Retract word.now body.now) }
 {
     let Some(at) = number_field(alloc, body, "at")? else {
         return Ok(None);
     };
     let article = Text8::from_str(alloc, word)?;
     let back = article_path(alloc, word)?;
-    Ok(Some((Request::Retract { article, at }, Then::Go(back))))
+    Ok(Some((
+        Request::OnArticle {
+            article,
+            asked: ArticleRequest::Retract { at },
+        },
+        Then::Go(back),
+    )))
 }
 
 #[tactic(auto, unfolding(crate::specs::Asked::place_asked))]
 fn reassert_asked(alloc: Global, word: &str, body: &[u8]) -> Result<Asked, Memory>
-    ensures { IfOk result (λ found. found ≡ place_asked (Request.Reassert word.now) word.now body.now) }
+    ensures { IfOk result (λ found. found ≡ place_asked ArticleRequest.Reassert word.now body.now) }
 {
     let Some(at) = number_field(alloc, body, "at")? else {
         return Ok(None);
     };
     let article = Text8::from_str(alloc, word)?;
     let back = article_path(alloc, word)?;
-    Ok(Some((Request::Reassert { article, at }, Then::Go(back))))
+    Ok(Some((
+        Request::OnArticle {
+            article,
+            asked: ArticleRequest::Reassert { at },
+        },
+        Then::Go(back),
+    )))
 }
 
 fn session_asked(
@@ -181,45 +216,81 @@ fn session_asked(
     ensures { IfOk result (λ found. found ≡ session_asked in_it session body.now) }
 {
     match in_it {
-        InSession::Menu => Ok(Some((Request::Menu { session }, Then::Page(session)))),
-        InSession::Put => put_asked(alloc, session, body),
+        InSession::Menu => Ok(Some((
+            Request::OnSession {
+                session,
+                asked: SessionRequest::Menu,
+            },
+            Then::Page(session),
+        ))),
+        InSession::Type => type_asked(alloc, session, body),
         InSession::Back => back_asked(alloc, session),
         InSession::Refresh => refresh_asked(alloc, session),
-        InSession::Commit => Ok(Some((Request::Commit { session }, Then::GoArticle))),
+        InSession::Commit => Ok(Some((
+            Request::OnSession {
+                session,
+                asked: SessionRequest::Commit,
+            },
+            Then::GoArticle,
+        ))),
         InSession::Drop => drop_asked(alloc, session),
     }
 }
 
-#[tactic(auto, unfolding(crate::specs::Asked::put_asked))]
-fn put_asked(alloc: Global, session: u32, body: &[u8]) -> Result<Asked, Memory>
-    ensures { IfOk result (λ found. found ≡ put_asked session body.now) }
+#[tactic(auto, unfolding(crate::specs::Asked::type_asked))]
+fn type_asked(alloc: Global, session: u32, body: &[u8]) -> Result<Asked, Memory>
+    ensures { IfOk result (λ found. found ≡ type_asked session body.now) }
 {
     match field(alloc, body, "token")? {
         Some(text) => {
             let path = session_path(alloc, session)?;
-            Ok(Some((Request::Put { session, text }, Then::Go(path))))
+            Ok(Some((
+                Request::OnSession {
+                    session,
+                    asked: SessionRequest::Type { text },
+                },
+                Then::Go(path),
+            )))
         }
         None => Ok(None),
     }
 }
 
 fn back_asked(alloc: Global, session: u32) -> Result<Asked, Memory>
-    ensures { IfOk result (λ found. found ≡ Some (Request.Back session, Then.Go (session_path session))) }
+    ensures { IfOk result (λ found. found ≡ Some (Request.OnSession session SessionRequest.Back, Then.Go (session_path session))) }
 {
     let path = session_path(alloc, session)?;
-    Ok(Some((Request::Back { session }, Then::Go(path))))
+    Ok(Some((
+        Request::OnSession {
+            session,
+            asked: SessionRequest::Back,
+        },
+        Then::Go(path),
+    )))
 }
 
 fn refresh_asked(alloc: Global, session: u32) -> Result<Asked, Memory>
-    ensures { IfOk result (λ found. found ≡ Some (Request.Refresh session, Then.Go (session_path session))) }
+    ensures { IfOk result (λ found. found ≡ Some (Request.OnSession session SessionRequest.Refresh, Then.Go (session_path session))) }
 {
     let path = session_path(alloc, session)?;
-    Ok(Some((Request::Refresh { session }, Then::Go(path))))
+    Ok(Some((
+        Request::OnSession {
+            session,
+            asked: SessionRequest::Refresh,
+        },
+        Then::Go(path),
+    )))
 }
 
 fn drop_asked(alloc: Global, session: u32) -> Result<Asked, Memory>
-    ensures { IfOk result (λ found. found ≡ Some (Request.Drop session, Then.Go (codes "/"))) }
+    ensures { IfOk result (λ found. found ≡ Some (Request.OnSession session SessionRequest.Drop, Then.Go (codes "/"))) }
 {
     let path = Text8::from_str(alloc, "/")?;
-    Ok(Some((Request::Drop { session }, Then::Go(path))))
+    Ok(Some((
+        Request::OnSession {
+            session,
+            asked: SessionRequest::Drop,
+        },
+        Then::Go(path),
+    )))
 }

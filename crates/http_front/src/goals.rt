@@ -17,14 +17,14 @@ pub enum OnArticle {
     Remove,
     Retract,
     Reassert,
-    Begin,
+    Open,
 }
 
 /// What is done with a session.
 #[derive(Clone, Copy, Debug, PartialEq, Eq)]
 pub enum InSession {
     Menu,
-    Put,
+    Type,
     Back,
     Refresh,
     Commit,

@@ -12,6 +12,7 @@ use Rattle.verbalise.specs.Said.{said}
 use Rattle.verbalise.specs.Readings.{stating, ReadsAs}
 use Rattle.wiki_talk.specs.declared.limits.TheConstants.{MOST_SENTENCES}
 use Rattle.wiki_talk.specs.declared.requests.Request.TheVariants as requests
+use Rattle.wiki_talk.specs.declared.requests.ArticleRequest.TheVariants as of_article
 use Rattle.wire_json.specs.Requests.{request_line}
 use Rattle.owl_import.specs.Words.{axiom_text}
 
@@ -70,7 +71,7 @@ AreFates g words before claims fates = ⊥
 
 -- the line that asks for an added axiom, at the end of its article
 abbrev pub add_line : GrammarParts → Fate → List ℕ
-add_line g (added article tokens) = request_line (requests.Add article None (shown g.terminals tokens))
+add_line g (added article tokens) = request_line (requests.OnArticle article (of_article.Add None (shown g.terminals tokens)))
 add_line g (left_out n claim) = []
 
 -- the line of an axiom that is left out: its number, and its text

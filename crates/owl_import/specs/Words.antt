@@ -15,6 +15,7 @@ use Rattle.owl_reader.specs.declared.kinds.Entity.{Entity}
 use Rattle.owl_text.specs.Texts.{claim_text}
 use Rattle.owl_words.specs.Chosen.{AddsWord}
 use Rattle.wiki_talk.specs.declared.requests.Request.TheVariants as requests
+use Rattle.wiki_talk.specs.declared.requests.WikiRequest.TheVariants as of_wiki
 use Rattle.wire_json.specs.Requests.{request_line}
 
 -- a class is a noun, a property a verb, an individual a name
@@ -38,7 +39,7 @@ AreWordsOf g entities words = AddsWords (no_words g) (take MOST_WORDS entities) 
 
 -- the lines that ask for words, each with all its forms
 abbrev pub word_line : Word → List ℕ
-word_line word = request_line (requests.Word word.forms.kind word.forms.texts)
+word_line word = request_line (requests.OnWiki (of_wiki.Word word.forms.kind word.forms.texts))
 
 abbrev pub word_lines : Listed → List ℕ
 word_lines words = flat_map word_line words.live

@@ -16,7 +16,7 @@ use std::alloc::Global;
 use std::marker::Model;
 use verbalise::{Spoken, say};
 use wiki_base::{Memory, Spelled, Text8, Tokens};
-use wiki_talk::{MOST_SENTENCES, Request};
+use wiki_talk::{ArticleRequest, MOST_SENTENCES, Request};
 use wire_json::request_line;
 
 /// The lines that were written so far.
@@ -134,10 +134,12 @@ fn put_added(
     let Some(article) = first_word(words, tokens) else {
         unreachable!()
     };
-    let request = Request::Add {
+    let request = Request::OnArticle {
         article: Text8::from_str(alloc, article)?,
-        at: None,
-        text: show(alloc, grammar.grammar(), tokens)?,
+        asked: ArticleRequest::Add {
+            at: None,
+            text: show(alloc, grammar.grammar(), tokens)?,
+        },
     };
     let line = request_line(alloc, &request)?;
     out.push_str(line.as_str())

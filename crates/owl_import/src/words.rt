@@ -10,7 +10,7 @@ use owl_reader::{Entities, EntityKind};
 use owl_words::Naming;
 use std::alloc::Global;
 use wiki_base::{Memory, Text8, Text8s};
-use wiki_talk::Request;
+use wiki_talk::{Request, WikiRequest};
 use wire_json::request_line;
 
 /// The words of entities: of the first `MOST_WORDS` one each, in order.
@@ -58,9 +58,9 @@ fn word_line(alloc: Global, word: &Word) -> Result<Text8, Memory>
     for text in word.forms.texts.as_slice() {
         forms.push(Text8::from_str(alloc, text.as_str())?)?;
     }
-    let request = Request::Word {
+    let request = Request::OnWiki(WikiRequest::Word {
         kind: word.forms.kind,
         forms,
-    };
+    });
     request_line(alloc, &request)
 }

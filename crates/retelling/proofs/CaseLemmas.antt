@@ -17,11 +17,11 @@ use Rattle.logic_terms.specs.declared.expressions.Class.{Class}
 use Rattle.logic_terms.specs.Shown.{concept_of}
 use Rattle.articles.specs.declared.sentences.Sentence.{Sentence}
 use Rattle.articles.specs.Articles.{sentence_at}
-use Rattle.wiki_parts.specs.State.{State}
-use Rattle.wiki_parts.specs.Knowledge.{live_names}
-use Rattle.wiki_parts.specs.Meanings.{Meaning, asking, Means}
-use Rattle.wiki_parts.specs.Places.{word_named}
-use Rattle.wiki_parts.specs.Refusing.{may_reassert}
+use Rattle.plain_wiki.specs.State.{Stored}
+use Rattle.plain_wiki.specs.Knowledge.{live_names}
+use Rattle.plain_wiki.specs.Meanings.{Meaning, asking, Means}
+use Rattle.plain_wiki.specs.Places.{word_named}
+use Rattle.plain_wiki.specs.Causes.{may_reassert}
 use Rattle.wiki_parts.proofs.MeaningLemmas.{means_one}
 use Rattle.wiki_core.specs.declared.meaning.Meaning.{Meaning as Told}
 use Rattle.wiki_core.specs.Parts.{asked_by, IsMeaningAt, IsFitClass}
@@ -29,12 +29,12 @@ use Rattle.retelling.specs.Cases.{AsksFor, TellsCounted}
 use Rattle.retelling.specs.Why.{IsRedCase, IsAnswerCase, IsRedCaseOf, IsAnswerCaseOf, TellsOf, TellsCase}
 
 -- there is no case
-pub no_case_told : (state : State) (budget : ℕ) (Case : List Place → List (List Claim) → Type 0) (text told : List ℕ)
+pub no_case_told : (state : Stored) (budget : ℕ) (Case : List Place → List (List Claim) → Type 0) (text told : List ℕ)
     → ((places : List Place) (parts : List (List Claim)) → ¬ Case places parts) → text ≡ told
     → ((places : List Place) → (parts : List (List Claim)) → ¬ Case places parts) × (text ≡ told)
 no_case_told state budget Case text told none is = (none, is)
 
-module _ (state : State) where
+module _ (state : Stored) where
   -- ---- a sentence
 
   -- no word has the form

@@ -19,18 +19,18 @@ use Rattle.explain.specs.declared.why.Why.TheVariants.{Reason}
 use Rattle.explain.specs.declared.part.Part.{Part}
 use Rattle.explain.specs.Answers.{claims_in, IfReason}
 use Rattle.explain.specs.Reasons.{stated_at, without, IsReason}
-use Rattle.wiki_parts.specs.State.{State}
-use Rattle.wiki_parts.specs.Knowledge.{HaveModel}
+use Rattle.plain_wiki.specs.State.{Stored}
+use Rattle.plain_wiki.specs.Knowledge.{HaveModel}
 use Rattle.wiki_core.specs.Parts.{place_of, AreParts}
 use Rattle.retelling.specs.Cases.{TellsCounted}
 use Rattle.retelling.specs.Why.{line_at, reason_lines, TellsOf}
 
 -- the line of a place among these, if it is one
-abbrev pub line_of_kept : State → List Place → ℕ → List ℕ
+abbrev pub line_of_kept : Stored → List Place → ℕ → List ℕ
 line_of_kept state places k = option_map_or (line_at state) (slice_get places k) []
 
 -- one line more
-pub line_more : (state : State) (places : List Place) (kept : List ℕ) (i : ℕ) (lines after : List ℕ) → lines ≡ reason_lines state places (take i kept)
+pub line_more : (state : Stored) (places : List Place) (kept : List ℕ) (i : ℕ) (lines after : List ℕ) → lines ≡ reason_lines state places (take i kept)
     → i < length kept
     → after ≡ lines ++ line_of_kept state places (get_or kept i 0) → after ≡ reason_lines state places (take (i + 1) kept)
 line_more state places kept i lines after so_far within added =
@@ -39,7 +39,7 @@ line_more state places kept i lines after so_far within added =
     ∙ ap (flat_map (line_of_kept state places)) (sym (take_more kept i 0 within))
 
 -- the line of the part at a place, if there is one
-pub line_of_part : (state : State) (parts : List Part) (k : ℕ) (part : Option Part) → slice_get parts k ≡ part
+pub line_of_part : (state : Stored) (parts : List Part) (k : ℕ) (part : Option Part) → slice_get parts k ≡ part
     → line_of_kept state (map place_of parts) k ≡ option_map_or (λ (p : Part). line_at state (place_of p)) part []
 line_of_part state parts k part here =
     ap (λ (o : Option Place). option_map_or (line_at state) o []) (slice_get-map place_of parts k ∙ ap (option_map place_of) here) ∙ by part
@@ -63,7 +63,7 @@ each_needed parts all (k ∷ kept) (m ∷ models) zipped finite =
 
 -- ---- what is told of the sentences that count
 
-pub of_counted : (state : State) (budget : ℕ) (taken : Option Place) (parts : List Part) (text : List ℕ) → AreParts state taken parts
+pub of_counted : (state : Stored) (budget : ℕ) (taken : Option Place) (parts : List Part) (text : List ℕ) → AreParts state taken parts
     → TellsOf state budget (map place_of (take (length parts) parts)) (claims_in parts) text → TellsCounted state budget taken [] text
 of_counted state budget taken parts text are tells = record {
   places = map place_of (take (length parts) parts);
@@ -78,7 +78,7 @@ of_counted state budget taken parts text are tells = record {
     take_all xs = ap (take (length xs)) (sym (append-nil xs)) ∙ take_at xs [] (length xs) refl
 
 -- the same with a further part behind them
-pub of_counted_more : (state : State) (budget : ℕ) (taken : Option Place) (parts after : List Part) (more : Part) (claims : List Claim) (text : List ℕ)
+pub of_counted_more : (state : Stored) (budget : ℕ) (taken : Option Place) (parts after : List Part) (more : Part) (claims : List Claim) (text : List ℕ)
     → AreParts state taken parts → after ≡ parts ++ more ∷ [] → claims_of more.axioms ≡ claims
     → TellsOf state budget (map place_of (take (length parts) after)) (claims_in after) text → TellsCounted state budget taken (claims ∷ []) text
 of_counted_more state budget taken parts after more claims text are added is tells = record {
@@ -100,7 +100,7 @@ fit_more P parts after more claims all added is fit =
     (All-cons P (claims_of more.axioms) [] (subst P (sym is) fit) (All-nil P)))
 
 -- what is told where there is a reason
-pub tells_reason : (state : State) (budget : ℕ) (places : List Place) (parts : List (List Claim)) (why : Why) (kept : List ℕ) (closed : Closed)
+pub tells_reason : (state : Stored) (budget : ℕ) (places : List Place) (parts : List (List Claim)) (why : Why) (kept : List ℕ) (closed : Closed)
     (models : List CheckedModel) (text : List ℕ) → why ≡ Reason kept closed models → IfReason why (λ kept _ _. IsReason parts kept)
     → IfReason why (λ kept _ _. HaveNoModel (stated_at parts kept))
     → IfReason why (λ kept _ models. AllZip (λ k m. kept_claims m ≡ stated_at parts (without k kept)) kept models)

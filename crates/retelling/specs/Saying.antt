@@ -9,8 +9,8 @@ use Rattle.logic_terms.specs.Concept.{Claim}
 use Rattle.owl_text.specs.Texts.{claim_text}
 use Rattle.verbalise.specs.Said.{said}
 use Rattle.verbalise.specs.Readings.{stating, ReadsAs}
-use Rattle.wiki_parts.specs.State.{State}
-use Rattle.wiki_parts.specs.Knowledge.{Knows}
+use Rattle.plain_wiki.specs.State.{Stored}
+use Rattle.plain_wiki.specs.Knowledge.{Knows}
 
 -- the tokens are a sentence of the axiom: it is said as them, they are not too many, and they are read as exactly that axiom
 pub record IsSentenceOf (g : GrammarParts) (words : Listed) (claim : Claim) (tokens : List (List ℕ)) : Type 0 where
@@ -39,7 +39,7 @@ pub record AreLinesOf (g : GrammarParts) (words : Listed) (claims : List Claim) 
   pub are : lines ≡ lines_of texts
 
 -- the lines of all that a wiki knows
-pub record SaysAll (state : State) (lines : List ℕ) : Type 0 where
+pub record SaysAll (state : Stored) (lines : List ℕ) : Type 0 where
   pub claims : List Claim
   pub known : Knows state claims
   pub said : AreLinesOf state.grammar state.words claims lines

@@ -5,8 +5,8 @@ ghost use Rattle.logic_terms.specs.Complement.{complement};
 ghost use Rattle.logic_terms.specs.Concept.{ClassAssertion};
 ghost use Rattle.logic_terms.specs.Shown.{claims_of, concept_of};
 ghost use Rattle.wiki_core.specs.Parts.{IsFitClass};
-ghost use Rattle.wiki_parts.specs.Knowledge.{live_names};
-ghost use Rattle.wiki_parts.specs.Refusing.{may_reassert};
+ghost use Rattle.plain_wiki.specs.Knowledge.{live_names};
+ghost use Rattle.plain_wiki.specs.Causes.{may_reassert};
 ghost use Rattle.retelling.specs.Cases.{AsksFor, TellsCounted};
 ghost use Rattle.retelling.specs.Why.{IsRedCase, IsAnswerCase, IsRedCaseOf, IsAnswerCaseOf, TellsCase, TellsWhy};
 
@@ -30,7 +30,7 @@ pub fn why(
     at: u32,
     name: Option<&str>,
 ) -> Result<Text8, Memory>
-    ensures { IfOk result (TellsWhy wiki.now.state.pages budget form.now at (option_map (λ n. n.now) name.entry)) }
+    ensures { IfOk result (TellsWhy wiki.now.state.stored budget form.now at (option_map (λ n. n.now) name.entry)) }
 {
     match name {
         None => of_sentence(alloc, wiki, budget, form, at),
@@ -53,7 +53,7 @@ fn of_sentence(
     form: &str,
     at: u32,
 ) -> Result<Text8, Memory>
-    ensures { IfOk result (TellsCase wiki.now.state.pages budget (IsRedCaseOf wiki.now.state.pages form.now at)) }
+    ensures { IfOk result (TellsCase wiki.now.state.stored budget (IsRedCaseOf wiki.now.state.stored form.now at)) }
 {
     match wiki.lexicon().find(form) {
         Some(word) => of_sentence_at(alloc, wiki, budget, word, at),
@@ -69,7 +69,7 @@ fn of_sentence_at(
     word: WordId,
     at: u32,
 ) -> Result<Text8, Memory>
-    ensures { IfOk result (TellsCase wiki.now.state.pages budget (IsRedCase wiki.now.state.pages word at)) }
+    ensures { IfOk result (TellsCase wiki.now.state.stored budget (IsRedCase wiki.now.state.stored word at)) }
 {
     let Some(sentence) = wiki.sentence(word, at) else {
         return no_case(alloc);
@@ -99,7 +99,7 @@ fn with_sentence(
     word: WordId,
     at: u32,
 ) -> Result<Text8, Memory>
-    ensures { IfOk result (TellsCounted wiki.now.state.pages budget (Some (record { article = word; at = at })) []) }
+    ensures { IfOk result (TellsCounted wiki.now.state.stored budget (Some (record { article = word; at = at })) []) }
 {
     let parts = wiki.parts_with(Place { article: word, at })?;
     explained(alloc, wiki, budget, parts.as_slice(), parts.len())
@@ -114,7 +114,7 @@ fn of_answer(
     at: u32,
     name: &str,
 ) -> Result<Text8, Memory>
-    ensures { IfOk result (TellsCase wiki.now.state.pages budget (IsAnswerCaseOf wiki.now.state.pages form.now at name.now)) }
+    ensures { IfOk result (TellsCase wiki.now.state.stored budget (IsAnswerCaseOf wiki.now.state.stored form.now at name.now)) }
 {
     let Some(word) = wiki.lexicon().find(form) else {
         return no_case(alloc);
@@ -134,7 +134,7 @@ fn of_answer_at(
     at: u32,
     name: WordId,
 ) -> Result<Text8, Memory>
-    ensures { IfOk result (TellsCase wiki.now.state.pages budget (IsAnswerCase wiki.now.state.pages word at name)) }
+    ensures { IfOk result (TellsCase wiki.now.state.stored budget (IsAnswerCase wiki.now.state.stored word at name)) }
 {
     let Some(meaning) = wiki.meaning(word, at)? else {
         return no_case(alloc);
@@ -155,9 +155,9 @@ fn of_class(
     class: &Class,
     name: WordId,
 ) -> Result<Text8, Memory>
-    requires asks { AsksFor wiki.now.state.pages word at class.now }
-    requires fit { IsFitClass wiki.now.state.pages.words class.now }
-    ensures { IfOk result (TellsCase wiki.now.state.pages budget (IsAnswerCase wiki.now.state.pages word at name)) }
+    requires asks { AsksFor wiki.now.state.stored word at class.now }
+    requires fit { IsFitClass wiki.now.state.stored.words class.now }
+    ensures { IfOk result (TellsCase wiki.now.state.stored budget (IsAnswerCase wiki.now.state.stored word at name)) }
 {
     if is_live_name(wiki, name)? {
         with_denial(alloc, wiki, budget, class, name)
@@ -168,7 +168,7 @@ fn of_class(
 
 // Whether a word is one of the live names.
 fn is_live_name(wiki: &Wiki, word: WordId) -> Result<bool, Memory>
-    ensures { IfOk result (λ is. is ≡ is_among (live_names wiki.now.state.pages.words) word) }
+    ensures { IfOk result (λ is. is ≡ is_among (live_names wiki.now.state.stored.words) word) }
 {
     let names = wiki.names()?;
     Ok(names.as_slice().iter().any(|name| word.0 == name.0))
@@ -182,9 +182,9 @@ fn with_denial(
     class: &Class,
     name: WordId,
 ) -> Result<Text8, Memory>
-    requires lives { IsTrue (is_among (live_names wiki.now.state.pages.words) name) }
-    requires fit { IsFitClass wiki.now.state.pages.words class.now }
-    ensures { IfOk result (TellsCounted wiki.now.state.pages budget None
+    requires lives { IsTrue (is_among (live_names wiki.now.state.stored.words) name) }
+    requires fit { IsFitClass wiki.now.state.stored.words class.now }
+    ensures { IfOk result (TellsCounted wiki.now.state.stored budget None
         ((ClassAssertion (complement (concept_of class.now)) name ∷ []) ∷ [])) }
 {
     let mut parts = wiki.parts()?;

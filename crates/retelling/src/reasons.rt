@@ -9,7 +9,7 @@ ghost use Rattle.logic_terms.specs.Plain.{are_plain};
 ghost use Rattle.owl_eval.specs.Checked.{kept_interp, kept_claims};
 ghost use Rattle.reasoner.specs.Verdicts.{IsFiniteModel};
 ghost use Rattle.wiki_core.specs.Parts.{place_of};
-ghost use Rattle.wiki_parts.specs.Knowledge.{live_names};
+ghost use Rattle.plain_wiki.specs.Knowledge.{live_names};
 ghost use Rattle.retelling.specs.Why.{line_of_sentence, line_at, reason_lines, TellsOf};
 
 use articles::Sentence;
@@ -29,9 +29,9 @@ pub(crate) fn explained(
     count: usize,
 ) -> Result<Text8, Memory>
     requires count { count ≤ length parts.now }
-    requires over { All (λ claims. IsTrue (are_over (live_names wiki.now.state.pages.words) claims)) (claims_in parts.now) }
+    requires over { All (λ claims. IsTrue (are_over (live_names wiki.now.state.stored.words) claims)) (claims_in parts.now) }
     requires plain { All (λ claims. IsTrue (are_plain claims)) (claims_in parts.now) }
-    ensures { IfOk result (TellsOf wiki.now.state.pages budget (map place_of (take count parts.now)) (claims_in parts.now)) }
+    ensures { IfOk result (TellsOf wiki.now.state.stored budget (map place_of (take count parts.now)) (claims_in parts.now)) }
 {
     let names = wiki.names()?;
     match explain(alloc, parts, &names, budget)? {
@@ -71,7 +71,7 @@ fn reason_lines(
     sentences: &[Part],
     kept: &[usize],
 ) -> Result<Text8, Memory>
-    ensures { IfOk result (λ text. text ≡ reason_lines wiki.now.state.pages (map place_of sentences.now) kept.now) }
+    ensures { IfOk result (λ text. text ≡ reason_lines wiki.now.state.stored (map place_of sentences.now) kept.now) }
 {
     let mut lines = Text8::new(alloc);
     for place in kept {
@@ -89,7 +89,7 @@ fn push_kept(
     place: usize,
 ) -> Result<(), Memory>
     ensures { OnOk result (lines.new
-        ≡ lines.old ++ option_map_or (line_at wiki.now.state.pages) (slice_get (map place_of sentences.now) place) []) }
+        ≡ lines.old ++ option_map_or (line_at wiki.now.state.stored) (slice_get (map place_of sentences.now) place) []) }
 {
     match sentences.get(place) {
         Some(part) => push_line(alloc, lines, wiki, part),
@@ -99,7 +99,7 @@ fn push_kept(
 
 // Adds the line of the sentence that a part is.
 fn push_line(alloc: Global, lines: &mut Text8, wiki: &Wiki, part: &Part) -> Result<(), Memory>
-    ensures { OnOk result (lines.new ≡ lines.old ++ line_at wiki.now.state.pages (place_of part.now)) }
+    ensures { OnOk result (lines.new ≡ lines.old ++ line_at wiki.now.state.stored (place_of part.now)) }
 {
     match wiki.sentence(part.article, part.at) {
         Some(sentence) => {
@@ -118,7 +118,7 @@ fn line_of_sentence(
     at: u32,
     sentence: &Sentence,
 ) -> Result<Text8, Memory>
-    ensures { IfOk result (λ text. text ≡ line_of_sentence wiki.now.state.pages (record { article = article; at = at }) sentence.now) }
+    ensures { IfOk result (λ text. text ≡ line_of_sentence wiki.now.state.stored (record { article = article; at = at }) sentence.now) }
 {
     let form = form_of(wiki, article);
     let text = show(alloc, wiki.grammar().grammar(), sentence.tokens.get())?;
@@ -127,7 +127,7 @@ fn line_of_sentence(
 
 // The canonical form of a word, or nothing where it isn't live.
 fn form_of(wiki: &Wiki, word: WordId) -> &str
-    ensures { result.now ≡ option_map_or (λ form. form) (canonical_form_of wiki.now.state.pages.words.live word) [] }
+    ensures { result.now ≡ option_map_or (λ form. form) (canonical_form_of wiki.now.state.stored.words.live word) [] }
 {
     match wiki.lexicon().spelled(word) {
         Some(form) => form,

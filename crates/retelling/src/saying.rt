@@ -17,7 +17,7 @@ use wiki_core::Wiki;
 /// The lines of all that the wiki knows: of each axiom its sentence, or its text behind a hyphen where no sentence says
 /// exactly that axiom.
 pub fn say_all(alloc: Global, wiki: &Wiki) -> Result<Text8, Memory>
-    ensures { IfOk result (SaysAll wiki.now.state.pages) }
+    ensures { IfOk result (SaysAll wiki.now.state.stored) }
 {
     lines_of(alloc, wiki.grammar(), wiki.lexicon(), wiki.asserted())
 }

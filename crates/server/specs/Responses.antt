@@ -66,7 +66,7 @@ refused_response answer refusal = page_response (refusal_status refusal) (refusa
 
 -- the session that a reply opened; 0 where it opened none
 abbrev pub session_opened : Reply → ℕ
-session_opened (replies.Begin session) = session
+session_opened (replies.Open session) = session
 session_opened reply = 0
 
 -- the article to which a session's sentence was added, if one was

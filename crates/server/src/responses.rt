@@ -79,7 +79,7 @@ fn session_opened(reply: &Reply) -> u32
     ensures { result ≡ session_opened reply.now }
 {
     match reply {
-        Reply::Begin { session } => *session,
+        Reply::Open { session } => *session,
         _ => 0,
     }
 }

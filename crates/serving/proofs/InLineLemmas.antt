@@ -7,6 +7,10 @@ use Rattle.wiki_io.specs.declared.links.Event.{Event}
 use Rattle.wiki_io.specs.declared.links.Event.TheVariants.{Opened, Piece, Ended}
 use Rattle.wiki_talk.specs.declared.requests.Request.{Request}
 use Rattle.wiki_talk.specs.declared.requests.Request.TheVariants as requests
+use Rattle.wiki_talk.specs.declared.requests.WikiRequest.TheVariants as of_wiki
+use Rattle.wiki_talk.specs.declared.requests.WordRequest.TheVariants as of_word
+use Rattle.wiki_talk.specs.declared.requests.ArticleRequest.TheVariants as of_article
+use Rattle.wiki_talk.specs.declared.requests.SessionRequest.TheVariants as of_session
 use Rattle.wiki_talk.specs.declared.replies.Reply.{Reply}
 use Rattle.wiki_talk.specs.declared.replies.Reply.TheVariants as replies
 use Rattle.wire_json.specs.Told.{gives_line}
@@ -69,27 +73,27 @@ lines_of_itself request true gives = one_line request gives
 lines_of_itself request false gives = All-nil GivesLine
 
 lines_with_shown : (request : Request) (shown : List ℕ) → All GivesLine (with_shown request shown)
-lines_with_shown (requests.Word kind forms) shown = All-nil GivesLine
-lines_with_shown (requests.Find word) shown = All-nil GivesLine
-lines_with_shown requests.Words shown = All-nil GivesLine
-lines_with_shown (requests.Parse sent) shown = All-nil GivesLine
-lines_with_shown (requests.Reword word forms) shown = All-nil GivesLine
-lines_with_shown (requests.Unword word) shown = All-nil GivesLine
-lines_with_shown (requests.Grammar text) shown = All-nil GivesLine
-lines_with_shown (requests.Add article place sent) shown = one_line (requests.Add article place shown) refl
-lines_with_shown (requests.Edit article place sent) shown = one_line (requests.Edit article place shown) refl
-lines_with_shown (requests.Remove article place) shown = All-nil GivesLine
-lines_with_shown (requests.Retract article place) shown = All-nil GivesLine
-lines_with_shown (requests.Reassert article place) shown = All-nil GivesLine
-lines_with_shown (requests.Read article) shown = All-nil GivesLine
-lines_with_shown (requests.Axioms article place) shown = All-nil GivesLine
-lines_with_shown (requests.Begin article) shown = All-nil GivesLine
-lines_with_shown (requests.Put session sent) shown = All-nil GivesLine
-lines_with_shown (requests.Back session) shown = All-nil GivesLine
-lines_with_shown (requests.Menu session) shown = All-nil GivesLine
-lines_with_shown (requests.Commit session) shown = All-nil GivesLine
-lines_with_shown (requests.Refresh session) shown = All-nil GivesLine
-lines_with_shown (requests.Drop session) shown = All-nil GivesLine
+lines_with_shown (requests.OnWiki (of_wiki.Word kind forms)) shown = All-nil GivesLine
+lines_with_shown (requests.OnWord word of_word.Find) shown = All-nil GivesLine
+lines_with_shown (requests.OnWiki of_wiki.Words) shown = All-nil GivesLine
+lines_with_shown (requests.OnWiki (of_wiki.Parse sent)) shown = All-nil GivesLine
+lines_with_shown (requests.OnWord word (of_word.Reword forms)) shown = All-nil GivesLine
+lines_with_shown (requests.OnWord word of_word.Unword) shown = All-nil GivesLine
+lines_with_shown (requests.OnWiki (of_wiki.Grammar text)) shown = All-nil GivesLine
+lines_with_shown (requests.OnArticle article (of_article.Add place sent)) shown = one_line (requests.OnArticle article (of_article.Add place shown)) refl
+lines_with_shown (requests.OnArticle article (of_article.Edit place sent)) shown = one_line (requests.OnArticle article (of_article.Edit place shown)) refl
+lines_with_shown (requests.OnArticle article (of_article.Remove place)) shown = All-nil GivesLine
+lines_with_shown (requests.OnArticle article (of_article.Retract place)) shown = All-nil GivesLine
+lines_with_shown (requests.OnArticle article (of_article.Reassert place)) shown = All-nil GivesLine
+lines_with_shown (requests.OnArticle article of_article.Read) shown = All-nil GivesLine
+lines_with_shown (requests.OnArticle article (of_article.Axioms place)) shown = All-nil GivesLine
+lines_with_shown (requests.OnArticle article of_article.Open) shown = All-nil GivesLine
+lines_with_shown (requests.OnSession session (of_session.Type sent)) shown = All-nil GivesLine
+lines_with_shown (requests.OnSession session of_session.Back) shown = All-nil GivesLine
+lines_with_shown (requests.OnSession session of_session.Menu) shown = All-nil GivesLine
+lines_with_shown (requests.OnSession session of_session.Commit) shown = All-nil GivesLine
+lines_with_shown (requests.OnSession session of_session.Refresh) shown = All-nil GivesLine
+lines_with_shown (requests.OnSession session of_session.Drop) shown = All-nil GivesLine
 
 lines_told : (request : Request) (reply : Reply) → GivesLine request → All GivesLine (changes_told request reply)
 lines_told r replies.Word gives = lines_of_itself r (is_change r) gives
@@ -105,11 +109,11 @@ lines_told r (replies.Retract status) gives = lines_of_itself r (is_change r) gi
 lines_told r (replies.Reassert status) gives = lines_of_itself r (is_change r) gives
 lines_told r (replies.Read form revision sentences) gives = lines_of_itself r (is_change r) gives
 lines_told r (replies.Axioms meant) gives = lines_of_itself r (is_change r) gives
-lines_told r (replies.Begin session) gives = lines_of_itself r (is_change r) gives
-lines_told r (replies.Put tokens) gives = lines_of_itself r (is_change r) gives
+lines_told r (replies.Open session) gives = lines_of_itself r (is_change r) gives
+lines_told r (replies.Type tokens) gives = lines_of_itself r (is_change r) gives
 lines_told r (replies.Back tokens) gives = lines_of_itself r (is_change r) gives
 lines_told r (replies.Menu menu whole shown) gives = lines_of_itself r (is_change r) gives
-lines_told r (replies.Commit article status shown) gives = one_line (requests.Add article None shown) refl
+lines_told r (replies.Commit article status shown) gives = one_line (requests.OnArticle article (of_article.Add None shown)) refl
 lines_told r replies.Refresh gives = lines_of_itself r (is_change r) gives
 lines_told r replies.Drop gives = lines_of_itself r (is_change r) gives
 lines_told r replies.Grammar gives = lines_of_itself r (is_change r) gives

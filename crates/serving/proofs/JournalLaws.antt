@@ -7,6 +7,10 @@ use Rattle.wiki_io.specs.Lines.{InputLine, text, input_lines}
 use Rattle.wiki_talk.specs.declared.requests.Request.{Request}
 use Rattle.wiki_talk.specs.declared.requests.LineRequest.{LineRequest}
 use Rattle.wiki_talk.specs.declared.requests.Request.TheVariants as requests
+use Rattle.wiki_talk.specs.declared.requests.WikiRequest.TheVariants as of_wiki
+use Rattle.wiki_talk.specs.declared.requests.WordRequest.TheVariants as of_word
+use Rattle.wiki_talk.specs.declared.requests.ArticleRequest.TheVariants as of_article
+use Rattle.wiki_talk.specs.declared.requests.SessionRequest.TheVariants as of_session
 use Rattle.wiki_talk.specs.declared.replies.Reply.{Reply}
 use Rattle.wiki_talk.specs.declared.replies.Reply.TheVariants as replies
 use Rattle.wire_json.specs.Requests.{line_request_of, request_line}
@@ -34,27 +38,27 @@ change_line-itself r = either r (is_change r)
 
 shown_line-with_shown : (r : Request) (shown : List ℕ) → shown_line r shown ≡ flat_map request_line (with_shown r shown)
 unfolding shown_line
-shown_line-with_shown (requests.Word kind forms) shown = refl
-shown_line-with_shown (requests.Find word) shown = refl
-shown_line-with_shown requests.Words shown = refl
-shown_line-with_shown (requests.Parse sent) shown = refl
-shown_line-with_shown (requests.Reword word forms) shown = refl
-shown_line-with_shown (requests.Unword word) shown = refl
-shown_line-with_shown (requests.Grammar sent) shown = refl
-shown_line-with_shown (requests.Add article place sent) shown = written (requests.Add article place shown)
-shown_line-with_shown (requests.Edit article place sent) shown = written (requests.Edit article place shown)
-shown_line-with_shown (requests.Remove article place) shown = refl
-shown_line-with_shown (requests.Retract article place) shown = refl
-shown_line-with_shown (requests.Reassert article place) shown = refl
-shown_line-with_shown (requests.Read article) shown = refl
-shown_line-with_shown (requests.Axioms article place) shown = refl
-shown_line-with_shown (requests.Begin article) shown = refl
-shown_line-with_shown (requests.Put session sent) shown = refl
-shown_line-with_shown (requests.Back session) shown = refl
-shown_line-with_shown (requests.Menu session) shown = refl
-shown_line-with_shown (requests.Commit session) shown = refl
-shown_line-with_shown (requests.Refresh session) shown = refl
-shown_line-with_shown (requests.Drop session) shown = refl
+shown_line-with_shown (requests.OnWiki (of_wiki.Word kind forms)) shown = refl
+shown_line-with_shown (requests.OnWord word of_word.Find) shown = refl
+shown_line-with_shown (requests.OnWiki of_wiki.Words) shown = refl
+shown_line-with_shown (requests.OnWiki (of_wiki.Parse sent)) shown = refl
+shown_line-with_shown (requests.OnWord word (of_word.Reword forms)) shown = refl
+shown_line-with_shown (requests.OnWord word of_word.Unword) shown = refl
+shown_line-with_shown (requests.OnWiki (of_wiki.Grammar sent)) shown = refl
+shown_line-with_shown (requests.OnArticle article (of_article.Add place sent)) shown = written (requests.OnArticle article (of_article.Add place shown))
+shown_line-with_shown (requests.OnArticle article (of_article.Edit place sent)) shown = written (requests.OnArticle article (of_article.Edit place shown))
+shown_line-with_shown (requests.OnArticle article (of_article.Remove place)) shown = refl
+shown_line-with_shown (requests.OnArticle article (of_article.Retract place)) shown = refl
+shown_line-with_shown (requests.OnArticle article (of_article.Reassert place)) shown = refl
+shown_line-with_shown (requests.OnArticle article of_article.Read) shown = refl
+shown_line-with_shown (requests.OnArticle article (of_article.Axioms place)) shown = refl
+shown_line-with_shown (requests.OnArticle article of_article.Open) shown = refl
+shown_line-with_shown (requests.OnSession session (of_session.Type sent)) shown = refl
+shown_line-with_shown (requests.OnSession session of_session.Back) shown = refl
+shown_line-with_shown (requests.OnSession session of_session.Menu) shown = refl
+shown_line-with_shown (requests.OnSession session of_session.Commit) shown = refl
+shown_line-with_shown (requests.OnSession session of_session.Refresh) shown = refl
+shown_line-with_shown (requests.OnSession session of_session.Drop) shown = refl
 
 -- the line of an accepted change is that of the request that makes it again
 pub journal_line-changes : (request : Request) (reply : Reply) → journal_line request reply ≡ flat_map request_line (changes_told request reply)
@@ -72,11 +76,11 @@ journal_line-changes r (replies.Retract status) = change_line-itself r
 journal_line-changes r (replies.Reassert status) = change_line-itself r
 journal_line-changes r (replies.Read form revision sentences) = change_line-itself r
 journal_line-changes r (replies.Axioms meant) = change_line-itself r
-journal_line-changes r (replies.Begin session) = change_line-itself r
-journal_line-changes r (replies.Put tokens) = change_line-itself r
+journal_line-changes r (replies.Open session) = change_line-itself r
+journal_line-changes r (replies.Type tokens) = change_line-itself r
 journal_line-changes r (replies.Back tokens) = change_line-itself r
 journal_line-changes r (replies.Menu menu whole shown) = change_line-itself r
-journal_line-changes r (replies.Commit article status shown) = written (requests.Add article None shown)
+journal_line-changes r (replies.Commit article status shown) = written (requests.OnArticle article (of_article.Add None shown))
 journal_line-changes r replies.Refresh = change_line-itself r
 journal_line-changes r replies.Drop = change_line-itself r
 journal_line-changes r replies.Grammar = change_line-itself r
@@ -89,27 +93,27 @@ few-itself r true = omega arith
 few-itself r false = omega arith
 
 few-shown : (r : Request) (shown : List ℕ) → length (with_shown r shown) ≤ 1
-few-shown (requests.Word kind forms) shown = omega arith
-few-shown (requests.Find word) shown = omega arith
-few-shown requests.Words shown = omega arith
-few-shown (requests.Parse sent) shown = omega arith
-few-shown (requests.Reword word forms) shown = omega arith
-few-shown (requests.Unword word) shown = omega arith
-few-shown (requests.Grammar sent) shown = omega arith
-few-shown (requests.Add article place sent) shown = omega arith
-few-shown (requests.Edit article place sent) shown = omega arith
-few-shown (requests.Remove article place) shown = omega arith
-few-shown (requests.Retract article place) shown = omega arith
-few-shown (requests.Reassert article place) shown = omega arith
-few-shown (requests.Read article) shown = omega arith
-few-shown (requests.Axioms article place) shown = omega arith
-few-shown (requests.Begin article) shown = omega arith
-few-shown (requests.Put session sent) shown = omega arith
-few-shown (requests.Back session) shown = omega arith
-few-shown (requests.Menu session) shown = omega arith
-few-shown (requests.Commit session) shown = omega arith
-few-shown (requests.Refresh session) shown = omega arith
-few-shown (requests.Drop session) shown = omega arith
+few-shown (requests.OnWiki (of_wiki.Word kind forms)) shown = omega arith
+few-shown (requests.OnWord word of_word.Find) shown = omega arith
+few-shown (requests.OnWiki of_wiki.Words) shown = omega arith
+few-shown (requests.OnWiki (of_wiki.Parse sent)) shown = omega arith
+few-shown (requests.OnWord word (of_word.Reword forms)) shown = omega arith
+few-shown (requests.OnWord word of_word.Unword) shown = omega arith
+few-shown (requests.OnWiki (of_wiki.Grammar sent)) shown = omega arith
+few-shown (requests.OnArticle article (of_article.Add place sent)) shown = omega arith
+few-shown (requests.OnArticle article (of_article.Edit place sent)) shown = omega arith
+few-shown (requests.OnArticle article (of_article.Remove place)) shown = omega arith
+few-shown (requests.OnArticle article (of_article.Retract place)) shown = omega arith
+few-shown (requests.OnArticle article (of_article.Reassert place)) shown = omega arith
+few-shown (requests.OnArticle article of_article.Read) shown = omega arith
+few-shown (requests.OnArticle article (of_article.Axioms place)) shown = omega arith
+few-shown (requests.OnArticle article of_article.Open) shown = omega arith
+few-shown (requests.OnSession session (of_session.Type sent)) shown = omega arith
+few-shown (requests.OnSession session of_session.Back) shown = omega arith
+few-shown (requests.OnSession session of_session.Menu) shown = omega arith
+few-shown (requests.OnSession session of_session.Commit) shown = omega arith
+few-shown (requests.OnSession session of_session.Refresh) shown = omega arith
+few-shown (requests.OnSession session of_session.Drop) shown = omega arith
 
 few-changes : (request : Request) (reply : Reply) → length (changes_told request reply) ≤ 1
 few-changes r replies.Word = few-itself r (is_change r)
@@ -125,8 +129,8 @@ few-changes r (replies.Retract status) = few-itself r (is_change r)
 few-changes r (replies.Reassert status) = few-itself r (is_change r)
 few-changes r (replies.Read form revision sentences) = few-itself r (is_change r)
 few-changes r (replies.Axioms meant) = few-itself r (is_change r)
-few-changes r (replies.Begin session) = few-itself r (is_change r)
-few-changes r (replies.Put tokens) = few-itself r (is_change r)
+few-changes r (replies.Open session) = few-itself r (is_change r)
+few-changes r (replies.Type tokens) = few-itself r (is_change r)
 few-changes r (replies.Back tokens) = few-itself r (is_change r)
 few-changes r (replies.Menu menu whole shown) = few-itself r (is_change r)
 few-changes r (replies.Commit article status shown) = omega arith
@@ -157,27 +161,29 @@ within_itself r true told = within_one r (most_for r) (omega arith) told
 within_itself r false told = within_none (most_for r)
 
 within_shown : (r : Request) (shown : List ℕ) → All IsToldChange (with_shown r shown) → IsWithin (most_for r) (with_shown r shown)
-within_shown (requests.Word kind forms) shown told = within_none most_line
-within_shown (requests.Find word) shown told = within_none most_line
-within_shown requests.Words shown told = within_none most_line
-within_shown (requests.Parse sent) shown told = within_none most_line
-within_shown (requests.Reword word forms) shown told = within_none most_line
-within_shown (requests.Unword word) shown told = within_none most_line
-within_shown (requests.Grammar sent) shown told = within_none MAX_LINE
-within_shown (requests.Add article place sent) shown told = within_one (requests.Add article place shown) most_line (omega arith) told
-within_shown (requests.Edit article place sent) shown told = within_one (requests.Edit article place shown) most_line (omega arith) told
-within_shown (requests.Remove article place) shown told = within_none most_line
-within_shown (requests.Retract article place) shown told = within_none most_line
-within_shown (requests.Reassert article place) shown told = within_none most_line
-within_shown (requests.Read article) shown told = within_none most_line
-within_shown (requests.Axioms article place) shown told = within_none most_line
-within_shown (requests.Begin article) shown told = within_none most_line
-within_shown (requests.Put session sent) shown told = within_none most_line
-within_shown (requests.Back session) shown told = within_none most_line
-within_shown (requests.Menu session) shown told = within_none most_line
-within_shown (requests.Commit session) shown told = within_none most_line
-within_shown (requests.Refresh session) shown told = within_none most_line
-within_shown (requests.Drop session) shown told = within_none most_line
+within_shown (requests.OnWiki (of_wiki.Word kind forms)) shown told = within_none most_line
+within_shown (requests.OnWord word of_word.Find) shown told = within_none most_line
+within_shown (requests.OnWiki of_wiki.Words) shown told = within_none most_line
+within_shown (requests.OnWiki (of_wiki.Parse sent)) shown told = within_none most_line
+within_shown (requests.OnWord word (of_word.Reword forms)) shown told = within_none most_line
+within_shown (requests.OnWord word of_word.Unword) shown told = within_none most_line
+within_shown (requests.OnWiki (of_wiki.Grammar sent)) shown told = within_none MAX_LINE
+within_shown (requests.OnArticle article (of_article.Add place sent)) shown told =
+    within_one (requests.OnArticle article (of_article.Add place shown)) most_line (omega arith) told
+within_shown (requests.OnArticle article (of_article.Edit place sent)) shown told =
+    within_one (requests.OnArticle article (of_article.Edit place shown)) most_line (omega arith) told
+within_shown (requests.OnArticle article (of_article.Remove place)) shown told = within_none most_line
+within_shown (requests.OnArticle article (of_article.Retract place)) shown told = within_none most_line
+within_shown (requests.OnArticle article (of_article.Reassert place)) shown told = within_none most_line
+within_shown (requests.OnArticle article of_article.Read) shown told = within_none most_line
+within_shown (requests.OnArticle article (of_article.Axioms place)) shown told = within_none most_line
+within_shown (requests.OnArticle article of_article.Open) shown told = within_none most_line
+within_shown (requests.OnSession session (of_session.Type sent)) shown told = within_none most_line
+within_shown (requests.OnSession session of_session.Back) shown told = within_none most_line
+within_shown (requests.OnSession session of_session.Menu) shown told = within_none most_line
+within_shown (requests.OnSession session of_session.Commit) shown told = within_none most_line
+within_shown (requests.OnSession session of_session.Refresh) shown told = within_none most_line
+within_shown (requests.OnSession session of_session.Drop) shown told = within_none most_line
 
 within_told : (request : Request) (reply : Reply) → All IsToldChange (changes_told request reply) → IsWithin (most_for request) (changes_told request reply)
 within_told r replies.Word told = within_itself r (is_change r) told
@@ -193,11 +199,11 @@ within_told r (replies.Retract status) told = within_itself r (is_change r) told
 within_told r (replies.Reassert status) told = within_itself r (is_change r) told
 within_told r (replies.Read form revision sentences) told = within_itself r (is_change r) told
 within_told r (replies.Axioms meant) told = within_itself r (is_change r) told
-within_told r (replies.Begin session) told = within_itself r (is_change r) told
-within_told r (replies.Put tokens) told = within_itself r (is_change r) told
+within_told r (replies.Open session) told = within_itself r (is_change r) told
+within_told r (replies.Type tokens) told = within_itself r (is_change r) told
 within_told r (replies.Back tokens) told = within_itself r (is_change r) told
 within_told r (replies.Menu menu whole shown) told = within_itself r (is_change r) told
-within_told r (replies.Commit article status shown) told = within_one (requests.Add article None shown) (most_for r) (least_most r) told
+within_told r (replies.Commit article status shown) told = within_one (requests.OnArticle article (of_article.Add None shown)) (most_for r) (least_most r) told
 within_told r replies.Refresh told = within_itself r (is_change r) told
 within_told r replies.Drop told = within_itself r (is_change r) told
 within_told r replies.Grammar told = within_itself r (is_change r) told

@@ -2,6 +2,7 @@
 use Rattle.std.specs.Prelude.{ℕ, List, [], ◌∷◌, None, if◌then◌else◌}
 use Rattle.wiki_talk.specs.declared.requests.Request.{Request}
 use Rattle.wiki_talk.specs.declared.requests.Request.TheVariants as requests
+use Rattle.wiki_talk.specs.declared.requests.ArticleRequest.TheVariants as of_article
 use Rattle.wiki_talk.specs.declared.replies.Reply.{Reply}
 use Rattle.wiki_talk.specs.declared.replies.Reply.TheVariants as replies
 use Rattle.serving.specs.Journal.{is_change}
@@ -13,14 +14,14 @@ itself request = if is_change request then request ∷ [] else []
 
 -- a sentence that is added or put in place of another is so again with the text that shows it
 abbrev pub with_shown : Request → List ℕ → List Request
-with_shown (requests.Add article place text) shown = requests.Add article place shown ∷ []
-with_shown (requests.Edit article place text) shown = requests.Edit article place shown ∷ []
+with_shown (requests.OnArticle article (of_article.Add place text)) shown = requests.OnArticle article (of_article.Add place shown) ∷ []
+with_shown (requests.OnArticle article (of_article.Edit place text)) shown = requests.OnArticle article (of_article.Edit place shown) ∷ []
 with_shown request shown = []
 
 -- the request that makes an accepted change again: a session's sentence is added to its article; of anything else none
 abbrev pub changes_told : Request → Reply → List Request
 changes_told request (replies.Refused refusal) = []
-changes_told request (replies.Commit article status shown) = requests.Add article None shown ∷ []
+changes_told request (replies.Commit article status shown) = requests.OnArticle article (of_article.Add None shown) ∷ []
 changes_told request (replies.Add status shown) = with_shown request shown
 changes_told request (replies.Edit status shown) = with_shown request shown
 changes_told request reply = itself request

@@ -5,7 +5,7 @@ ghost use Rattle.serving.specs.Journal.{is_change, line_written, change_line, sh
 use lists::Copied;
 use std::alloc::Global;
 use wiki_base::{Memory, Text8};
-use wiki_talk::{Reply, Request};
+use wiki_talk::{ArticleRequest, Reply, Request, WikiRequest, WordRequest};
 use wire_json::request_line;
 
 /// The journal's line for a request with its reply; the empty text where the reply tells of no accepted change.
@@ -29,8 +29,14 @@ fn shown_line(alloc: Global, request: &Request, shown: &Text8) -> Result<Text8, 
     ensures { IfOk result (λ line. line ≡ shown_line request.now shown.now) }
 {
     match request {
-        Request::Add { article, at, .. } => added_line(alloc, article, *at, shown),
-        Request::Edit { article, at, .. } => edited_line(alloc, article, *at, shown),
+        Request::OnArticle {
+            article,
+            asked: ArticleRequest::Add { at, .. },
+        } => added_line(alloc, article, *at, shown),
+        Request::OnArticle {
+            article,
+            asked: ArticleRequest::Edit { at, .. },
+        } => edited_line(alloc, article, *at, shown),
         _ => Ok(Text8::new(alloc)),
     }
 }
@@ -41,12 +47,14 @@ fn added_line(
     at: Option<u32>,
     text: &Text8,
 ) -> Result<Text8, Memory>
-    ensures { IfOk result (λ line. line ≡ line_written (Request.Add article.now at text.now)) }
+    ensures { IfOk result (λ line. line ≡ line_written (Request.OnArticle article.now (ArticleRequest.Add at text.now))) }
 {
-    let added = Request::Add {
+    let added = Request::OnArticle {
         article: article.copy()?,
-        at,
-        text: text.copy()?,
+        asked: ArticleRequest::Add {
+            at,
+            text: text.copy()?,
+        },
     };
     let line = line_written(alloc, &added);
     drop(added);
@@ -54,12 +62,14 @@ fn added_line(
 }
 
 fn edited_line(alloc: Global, article: &Text8, at: u32, text: &Text8) -> Result<Text8, Memory>
-    ensures { IfOk result (λ line. line ≡ line_written (Request.Edit article.now at text.now)) }
+    ensures { IfOk result (λ line. line ≡ line_written (Request.OnArticle article.now (ArticleRequest.Edit at text.now))) }
 {
-    let edited = Request::Edit {
+    let edited = Request::OnArticle {
         article: article.copy()?,
-        at,
-        text: text.copy()?,
+        asked: ArticleRequest::Edit {
+            at,
+            text: text.copy()?,
+        },
     };
     let line = line_written(alloc, &edited);
     drop(edited);
@@ -91,15 +101,36 @@ fn is_change(request: &Request) -> bool
     ensures { result ≡ is_change request.now }
 {
     match request {
-        Request::Word { .. } => true,
-        Request::Reword { .. } => true,
-        Request::Unword { .. } => true,
-        Request::Grammar { .. } => true,
-        Request::Add { .. } => true,
-        Request::Edit { .. } => true,
-        Request::Remove { .. } => true,
-        Request::Retract { .. } => true,
-        Request::Reassert { .. } => true,
+        Request::OnWiki(WikiRequest::Word { .. }) => true,
+        Request::OnWord {
+            asked: WordRequest::Reword { .. },
+            ..
+        } => true,
+        Request::OnWord {
+            asked: WordRequest::Unword,
+            ..
+        } => true,
+        Request::OnWiki(WikiRequest::Grammar { .. }) => true,
+        Request::OnArticle {
+            asked: ArticleRequest::Add { .. },
+            ..
+        } => true,
+        Request::OnArticle {
+            asked: ArticleRequest::Edit { .. },
+            ..
+        } => true,
+        Request::OnArticle {
+            asked: ArticleRequest::Remove { .. },
+            ..
+        } => true,
+        Request::OnArticle {
+            asked: ArticleRequest::Retract { .. },
+            ..
+        } => true,
+        Request::OnArticle {
+            asked: ArticleRequest::Reassert { .. },
+            ..
+        } => true,
         _ => false,
     }
 }

@@ -16,7 +16,8 @@ use Rattle.editor.specs.Editing.{IsEdited}
 use Rattle.sessions.proofs.PlaceLemmas.{session_at, with_change-set, without_session-remove}
 use Rattle.sessions.specs.declared.session.Session.{Session}
 use Rattle.wiki_talk.specs.declared.limits.TheConstants.{MOST_SESSIONS}
-use Rattle.sessions.specs.Sessions.{PlainSession, plain, all_plain, session_of, with_tokens, AreInOrder, with_change, without_session, without_article, IsRebasedSession, AreRebased, IsKept, AreKept, AreKeptOn, AreSessions}
+use Rattle.plain_wiki.specs.Sessions.{PlainSession, session_of, with_tokens, with_change, without_session, without_article, IsRebasedSession, AreRebased}
+use Rattle.sessions.specs.Sessions.{plain, all_plain, AreInOrder, IsKept, AreKept, AreKeptOn, AreSessions}
 use Rattle.sessions.specs.Places.{IsPlaceOf}
 
 abbrev Rising : Session → Session → Type 0

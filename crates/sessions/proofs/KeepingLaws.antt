@@ -10,7 +10,8 @@ use Rattle.derivation_trees.specs.Partial.{IsTypeable}
 use Rattle.editor.proofs.EditingLemmas.{typeable_by}
 use Rattle.editor.proofs.WordLemmas.{kept_with_word}
 use Rattle.sessions.specs.declared.session.Session.{Session}
-use Rattle.sessions.specs.Sessions.{PlainSession, plain, all_plain, AreKept, AreOfGrammar, AreTypeable, AreSessions}
+use Rattle.plain_wiki.specs.Sessions.{PlainSession, AreTypeable}
+use Rattle.sessions.specs.Sessions.{plain, all_plain, AreKept, AreOfGrammar, AreSessions}
 
 -- each session's tokens are typeable by the grammar and the lexicon that are kept
 pub kept_typeable : (g : GrammarParts) (l : Listed) (sessions : List Session) → AreSessions sessions → AreKept g l sessions

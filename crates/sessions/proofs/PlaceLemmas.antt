@@ -10,7 +10,8 @@ use Rattle.std.proofs.lemmas.Bool.Decides.{nat_tests}
 use Rattle.wiki_base.specs.declared.numbers.SessionId.{SessionId}
 use Rattle.wiki_base.proofs.ListLaws.{find_none, find_first, AllPairs-tail, AllPairs-head}
 use Rattle.sessions.specs.declared.session.Session.{Session}
-use Rattle.sessions.specs.Sessions.{PlainSession, plain, all_plain, session_of, AreInOrder, with_change, without_session}
+use Rattle.plain_wiki.specs.Sessions.{PlainSession, session_of, with_change, without_session}
+use Rattle.sessions.specs.Sessions.{plain, all_plain, AreInOrder}
 use Rattle.sessions.specs.Places.{IsPlaceOf}
 
 -- the session has the number, as it is held

@@ -34,7 +34,8 @@ impl Model for Sessions {
 }
 
 impl Sessions {
-    ghost use Rattle.sessions.specs.Sessions.{all_plain, plain, session_of, new_session, with_change, with_tokens, with_revision, without_session, without_article, HasSession, AreSessions, AreRebased, AreOfGrammar, AreTypeable, IsKept, AreKept, AreKeptOn};
+    ghost use Rattle.plain_wiki.specs.Sessions.{session_of, new_session, with_change, with_tokens, with_revision, without_session, without_article, HasSession, AreRebased, AreTypeable};
+    ghost use Rattle.sessions.specs.Sessions.{all_plain, plain, AreSessions, AreOfGrammar, IsKept, AreKept, AreKeptOn};
     ghost use Rattle.sessions.specs.Places.{IsPlaceOf};
 
     /// No sessions. Takes no memory.

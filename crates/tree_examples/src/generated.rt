@@ -3,7 +3,7 @@ use generator::{next_draw, sentence_of_kind};
 use std::alloc::Global;
 use std::test::Fail;
 use wiki_base::Memory;
-use wiki_talk::Request;
+use wiki_talk::{ArticleRequest, Request};
 
 // Whether the sentence of a kind by the three numbers that follow a draw is this text.
 fn is_text(alloc: Global, kind: u32, draw: u32, text: &str) -> Result<bool, Memory> {
@@ -21,7 +21,10 @@ fn is_text(alloc: Global, kind: u32, draw: u32, text: &str) -> Result<bool, Memo
 
 fn has_text(request: &Request, text: &str) -> bool {
     match request {
-        Request::Add { text: own, .. } => own.as_str() == text,
+        Request::OnArticle {
+            asked: ArticleRequest::Add { text: own, .. },
+            ..
+        } => own.as_str() == text,
         _ => false,
     }
 }

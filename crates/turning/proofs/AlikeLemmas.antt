@@ -11,8 +11,8 @@ use Rattle.articles.specs.Articles.{AreInOrder, HasArticle, is_of, article_of, c
 use Rattle.articles.proofs.BareLaws.{Bare, bare, bare_with, bare-changed, bare-over, bare-restored, bare-found}
 use Rattle.history.specs.declared.kept.Kept.{Kept}
 use Rattle.wiki_parts.specs.Kept.{meanings_in, MeanEach}
-use Rattle.wiki_parts.specs.Knowledge.{sentences_in, AreStated}
-use Rattle.wiki_parts.specs.State as parts
+use Rattle.plain_wiki.specs.Knowledge.{sentences_in, AreStated}
+use Rattle.plain_wiki.specs.State.{Stored}
 use Rattle.wiki_parts.specs.Holding as holding
 use Rattle.wiki_store.specs.PuttingBack.{with_sentences, CanBePut, IsOfArticle}
 use Rattle.wiki_store.proofs.PutBackLemmas.{sentences-same}
@@ -53,12 +53,12 @@ has_changed (a ∷ articles) word other change there =
             (ap (λ (w : WordId). eqb w.0 word.0) (sym same) ∙ is) there)
 
 -- two states with the same grammar, words and sentences
-pub record Alike (one other : parts.State) : Type 0 where
+pub record Alike (one other : Stored) : Type 0 where
   pub grammar : other.grammar ≡ one.grammar
   pub words : other.words ≡ one.words
   pub articles : bare other.articles ≡ bare one.articles
 
-pub can_by : (one other : parts.State) (kept : Kept) → HasArticle other.articles kept.article → other.grammar ≡ one.grammar → other.words ≡ one.words
+pub can_by : (one other : Stored) (kept : Kept) → HasArticle other.articles kept.article → other.grammar ≡ one.grammar → other.words ≡ one.words
     → bare (with_sentences other kept.article kept.sentences).articles ≡ bare (with_sentences one kept.article kept.sentences).articles
     → CanBePut one kept → CanBePut other kept
 can_by one other kept there grammar words same can =
@@ -86,7 +86,7 @@ pub bare_alike : (one other : List Article) (word : WordId) (sentences : List Se
 bare_alike one other word sentences same =
     bare-changed word (λ _. sentences) other ∙ ap (bare_with word (λ _. sentences)) same ∙ sym (bare-changed word (λ _. sentences) one)
 
-pub all_alike : (list : List Kept) (one other : parts.State) → Alike one other → CanAllBePut one list → CanAllBePut other list
+pub all_alike : (list : List Kept) (one other : Stored) → Alike one other → CanAllBePut one list → CanAllBePut other list
 all_alike [] one other alike can = tt
 all_alike (kept ∷ list) one other alike can =
     let same = bare_alike one.articles other.articles kept.article kept.sentences alike.articles in (
@@ -96,13 +96,13 @@ all_alike (kept ∷ list) one other alike can =
     )
 
 -- some of the newest can be put back where all can
-pub some_can : (n : ℕ) (list : List Kept) (state : parts.State) → CanAllBePut state list → CanAllBePut state (take n list)
+pub some_can : (n : ℕ) (list : List Kept) (state : Stored) → CanAllBePut state list → CanAllBePut state (take n list)
 some_can zero list state can = tt
 some_can (suc n) [] state can = tt
 some_can (suc n) (kept ∷ list) state can = (can.0, some_can n list (with_sentences state kept.article kept.sentences) can.1)
 
 -- What stood before a change of an article can be put back after it, and then what could be put back before.
-module _ (old : holding.Holding) (new : parts.State) (ordered : AreInOrder old.state.articles) (word : WordId) (change : List Sentence → List Sentence)
+module _ (old : holding.Holding) (new : Stored) (ordered : AreInOrder old.state.articles) (word : WordId) (change : List Sentence → List Sentence)
     (after : new ≡ record old.state { articles = with_change old.state.articles word change }) (kept : Kept) (is : IsOfArticle old word kept) where
   abbrev changed_there : List Article
   changed_there = with_change old.state.articles word change
@@ -137,13 +137,13 @@ module _ (old : holding.Holding) (new : parts.State) (ordered : AreInOrder old.s
 
   pub noted_can : CanBePut new kept
   noted_can =
-      subst (λ (s : parts.State). CanBePut s kept) (sym after)
+      subst (λ (s : Stored). CanBePut s kept) (sym after)
       (subst (λ (w : WordId). CanBePut (record old.state { articles = changed_there }) (record kept { article = w })) (sym is.article) changed_can)
 
   pub noted_all : (past : List Kept) → CanAllBePut old.state past → CanAllBePut new (kept ∷ past)
   noted_all past can = (
     noted_can,
-    subst (λ (s : parts.State). CanAllBePut (with_sentences s kept.article kept.sentences) past) (sym after)
+    subst (λ (s : Stored). CanAllBePut (with_sentences s kept.article kept.sentences) past) (sym after)
         (subst (λ (w : WordId). CanAllBePut (with_sentences (record old.state { articles = changed_there }) w kept.sentences) past) (sym is.article)
         (all_alike past old.state (with_sentences (record old.state { articles = changed_there }) word kept.sentences)
         (record { grammar = refl; words = refl; articles = over ∙ restores }) can)),

@@ -1,128 +1,155 @@
 -- What a step of the wiki changes of what is stored.
-use Rattle.std.proofs.Common.{◌≡◌, Bool, true, false, List, Some, None, option_map, ◌⊎◌, inl, inr, sym, ap, ◌∙◌}
-use Rattle.std.specs.Prelude.{MatchBool}
+use Rattle.std.proofs.Common.{◌≡◌, ℕ, Bool, true, false, cond, List, Option, Some, None, option_map, refl, sym, ap, subst, ◌∙◌}
+use Rattle.std.specs.Option.{IsSomeAnd, option_and_then}
 use Rattle.std.proofs.lemmas.Bool.{false≢true}
 use Rattle.std.proofs.lemmas.Option.{none-some, same_Some}
 use Rattle.wiki_base.specs.declared.numbers.WordId.{WordId}
-use Rattle.articles.specs.declared.sentences.Sentence.{Sentence}
-use Rattle.articles.specs.Articles.{with_change}
-use Rattle.sessions.specs.Sessions.{PlainSession}
-use Rattle.wiki_talk.specs.declared.refusals.Refusal.{Refusal}
+use Rattle.lexicon.specs.declared.words.Word.{Word}
 use Rattle.wiki_talk.specs.declared.replies.Reply.{Reply}
 use Rattle.wiki_talk.specs.declared.replies.Reply.TheVariants as replies
 use Rattle.wiki_talk.specs.declared.requests.Request.{Request}
 use Rattle.wiki_talk.specs.declared.requests.Request.TheVariants as requests
-use Rattle.wiki_parts.specs.State as parts
-use Rattle.wiki_store.specs.Step as store
-use Rattle.wiki_core.specs.State.{State}
+use Rattle.wiki_talk.specs.declared.requests.WikiRequest.TheVariants as of_wiki
+use Rattle.wiki_talk.specs.declared.requests.WordRequest.TheVariants as of_word
+use Rattle.wiki_talk.specs.declared.requests.ArticleRequest.{ArticleRequest}
+use Rattle.wiki_talk.specs.declared.requests.ArticleRequest.TheVariants as of_article
+use Rattle.wiki_talk.specs.declared.requests.SessionRequest.{SessionRequest}
+use Rattle.wiki_talk.specs.declared.requests.SessionRequest.TheVariants as of_session
+use Rattle.articles.specs.declared.sentences.Sentence.{Sentence}
+use Rattle.articles.specs.declared.article.Article.{Article}
+use Rattle.articles.specs.Articles.{article_of, with_change}
+use Rattle.plain_wiki.specs.Sessions.{PlainSession}
+use Rattle.plain_wiki.specs.State.{Stored, State}
+use Rattle.plain_wiki.specs.Places.{word_with, word_named, session_numbered}
+use Rattle.plain_wiki.specs.Knowledge.{Spending}
+use Rattle.plain_wiki.specs.Step.{DoesOnWord, DoesOnArticle, DoesOnSession, Does, Step}
 use Rattle.wiki_core.specs.Keeping.{changes_words}
-use Rattle.wiki_core.specs.Step.{Step, StepsPages, StepsSession}
-use Rattle.wiki_core.proofs.PagesLemmas.{refused_or_done}
-use Rattle.wiki_core.proofs.WholeStepLemmas as whole
-use Rattle.turning.specs.Turning.{article_changed}
+use Rattle.wiki_core.proofs.NamedLemmas.{SomeIs, some_is, word_is}
+use Rattle.turning.specs.Turning.{changes_article, article_changed}
 use Rattle.turning.specs.Laws.{is_refused}
 
 -- the sentences of the word's article change, and nothing else of what is stored
-pub record Changes (old new : parts.State) (word : WordId) : Type 0 where
+pub record Changes (old new : Stored) (word : WordId) : Type 0 where
   pub change : List Sentence → List Sentence
   pub after : new ≡ record old { articles = with_change old.articles word change }
 
 -- what is refused changes nothing
-pub refused_pages : (old new : State) (request : Request) (reply : Reply) → is_refused reply ≡ true → Step old request reply new → new.pages ≡ old.pages
-refused_pages old new request (replies.Refused refusal) told step = by (store.asks_store request) step
-  where
-    by : (b : Bool) → MatchBool b (StepsPages old request (replies.Refused refusal) new) (StepsSession old request (replies.Refused refusal) new)
-        → new.pages ≡ old.pages
-    by true pages = pages.pages.1
-    by false session = ap (λ (s : State). s.pages) session.1
-refused_pages old new request reply told step = absurd (false≢true told)
+pub refused_stays : (IsSpent : Spending) (old new : State) (request : Request) (reply : Reply) → is_refused reply ≡ true → Step IsSpent old request reply new
+    → new.stored ≡ old.stored
+refused_stays IsSpent old new request (replies.Refused refusal) told step = ap (λ (s : State). s.stored) step.1
+refused_stays IsSpent old new request reply told step = absurd (false≢true told)
 
-module _ (old new : State) (reply : Reply) (done : is_refused reply ≡ false) where
-  -- a reply that is no refusal
-  not_refused : (refusal : Refusal) → reply ≡ replies.Refused refusal → ⊥
-  not_refused refusal is = false≢true (sym done ∙ ap is_refused is)
-
-  abbrev Outcome : Request → Type 0
-  Outcome request = ((refusal : Refusal) × (reply ≡ replies.Refused refusal) × (new.pages ≡ old.pages))
-      ⊎ (store.IsFree old.pages request × store.Does old.pages request reply new.pages)
-
-  does_pages : (request : Request) → store.Step old.pages request reply new.pages → store.Does old.pages request reply new.pages
-  does_pages request step = by (refused_or_done old.pages new.pages request reply step)
+module _ (IsSpent : Spending) (old new : State) (reply : Reply) (done : is_refused reply ≡ false) where
+  -- what isn't refused is done
+  does_of : (request : Request) → Step IsSpent old request reply new → Does IsSpent old request reply new
+  does_of request step = by reply done step
     where
-      by : Outcome request → store.Does old.pages request reply new.pages
-      by (inl refused) = absurd (not_refused refused.0 refused.1)
-      by (inr free) = free.1
+      by : (said : Reply) → is_refused said ≡ false → Step IsSpent old request said new → Does IsSpent old request said new
+      by (replies.Refused refusal) done step = absurd (false≢true (sym done))
+      by said done step = step.1
 
-  does_session : (request : Request) → StepsSession old request reply new → whole.IsDone old request reply new
-  does_session request step = by (whole.outcome old request reply new step)
+  -- ---- a request on an article
+
+  article_changes : (asked : ArticleRequest) (article : Article) → changes_article asked ≡ true → DoesOnArticle IsSpent asked article old reply new
+      → Changes old.stored new.stored article.word
+  article_changes of_article.Read article changes does = absurd (false≢true changes)
+  article_changes (of_article.Axioms place) article changes does = absurd (false≢true changes)
+  article_changes of_article.Open article changes does = absurd (false≢true changes)
+  article_changes (of_article.Add given text) article changes does = record { change = _; after = does.stored.after }
+  article_changes (of_article.Edit place text) article changes does = record { change = _; after = does.stored.after }
+  article_changes (of_article.Remove place) article changes does = record { change = _; after = does.stored.after }
+  article_changes (of_article.Retract place) article changes does = record { change = _; after = does.stored.after }
+  article_changes (of_article.Reassert place) article changes does = record { change = _; after = does.stored.after }
+
+  article_stays : (asked : ArticleRequest) (article : Article) → changes_article asked ≡ false → DoesOnArticle IsSpent asked article old reply new
+      → new.stored ≡ old.stored
+  article_stays of_article.Read article stays does = ap (λ (s : State). s.stored) does.1
+  article_stays (of_article.Axioms place) article stays does = ap (λ (s : State). s.stored) does.1
+  article_stays of_article.Open article stays does = ap (λ (s : State). s.stored) does.after
+  article_stays (of_article.Add given text) article stays does = absurd (false≢true (sym stays))
+  article_stays (of_article.Edit place text) article stays does = absurd (false≢true (sym stays))
+  article_stays (of_article.Remove place) article stays does = absurd (false≢true (sym stays))
+  article_stays (of_article.Retract place) article stays does = absurd (false≢true (sym stays))
+  article_stays (of_article.Reassert place) article stays does = absurd (false≢true (sym stays))
+
+  -- what is done to the article of a word that was found
+  abbrev DoesNamed : ArticleRequest → Option WordId → Type 0
+  DoesNamed asked named = IsSomeAnd (option_and_then (article_of old.stored.articles) named) (λ article. DoesOnArticle IsSpent asked article old reply new)
+
+  named_changes : (asked : ArticleRequest) (word : WordId) (named : Option WordId) → cond (changes_article asked) named None ≡ Some word
+      → DoesNamed asked named → Changes old.stored new.stored word
+  named_changes asked word None is does = absurd does
+  named_changes asked word (Some found) is does = by (changes_article asked) refl is
     where
-      by : whole.IsRefused old request reply new ⊎ whole.IsDone old request reply new → whole.IsDone old request reply new
-      by (inl refused) = absurd (not_refused refused.0 refused.1)
-      by (inr free) = free
+      there : SomeIs (article_of old.stored.articles found) (λ (a : Article). DoesOnArticle IsSpent asked a old reply new)
+      there = some_is (article_of old.stored.articles found) (λ (a : Article). DoesOnArticle IsSpent asked a old reply new) does
 
-  changes_at : (found word : WordId) (change : List Sentence → List Sentence) → Some found ≡ Some word
-      → new.pages ≡ record old.pages { articles = with_change old.pages.articles found change } → Changes old.pages new.pages word
-  changes_at found word change same after = record {
-    change = change;
-    after = after ∙ ap (λ (w : WordId). record old.pages { articles = with_change old.pages.articles w change }) (same_Some found word same);
-  }
+      by : (b : Bool) → changes_article asked ≡ b → cond b (Some found) None ≡ Some word → Changes old.stored new.stored word
+      by true changes is =
+          subst (Changes old.stored new.stored) (word_is old.stored.articles found there.it there.named ∙ same_Some found word is)
+          (article_changes asked there.it changes there.is)
+      by false stays is = absurd (none-some word is)
+
+  named_stays : (asked : ArticleRequest) (named : Option WordId) → cond (changes_article asked) named None ≡ None → DoesNamed asked named
+      → new.stored ≡ old.stored
+  named_stays asked None none does = absurd does
+  named_stays asked (Some found) none does = by (changes_article asked) refl none
+    where
+      by : (b : Bool) → changes_article asked ≡ b → cond b (Some found) None ≡ None → new.stored ≡ old.stored
+      by true changes none = absurd (none-some found (sym none))
+      by false stays none =
+          let there = some_is (article_of old.stored.articles found) (λ (a : Article). DoesOnArticle IsSpent asked a old reply new) does in
+          article_stays asked there.it stays there.is
+
+  -- ---- a request on a session
+
+  session_there : (number : ℕ) (asked : SessionRequest) → Step IsSpent old (requests.OnSession number asked) reply new
+      → SomeIs (session_numbered old number) (λ (s : PlainSession). DoesOnSession IsSpent asked s old reply new)
+  session_there number asked step =
+      some_is (session_numbered old number) (λ (s : PlainSession). DoesOnSession IsSpent asked s old reply new)
+      (does_of (requests.OnSession number asked) step)
+
+  -- ---- any request
 
   -- a done request that changes an article changes its sentences alone
-  pub article_done : (request : Request) (word : WordId) → article_changed old request ≡ Some word → Step old request reply new
-      → Changes old.pages new.pages word
-  article_done (requests.Add form given text) word is step =
-      let does = does_pages (requests.Add form given text) step.pages in
-      changes_at does.word word _ (sym does.named ∙ is) does.after
-  article_done (requests.Edit form place text) word is step =
-      let does = does_pages (requests.Edit form place text) step.pages in
-      changes_at does.word word _ (sym does.named ∙ is) does.after
-  article_done (requests.Remove form place) word is step =
-      let does = does_pages (requests.Remove form place) step.pages in
-      changes_at does.word word _ (sym does.named ∙ is) does.after
-  article_done (requests.Retract form place) word is step =
-      let does = does_pages (requests.Retract form place) step.pages in
-      changes_at does.word word _ (sym does.named ∙ is) does.after
-  article_done (requests.Reassert form place) word is step =
-      let does = does_pages (requests.Reassert form place) step.pages in
-      changes_at does.word word _ (sym does.named ∙ is) does.after
-  article_done (requests.Commit session) word is step =
-      let does = (does_session (requests.Commit session) step).1 in
-      changes_at does.session.article word _ (sym (ap (option_map (λ (s : PlainSession). s.article)) does.named) ∙ is) (ap (λ (s : State). s.pages) does.after)
+  pub article_done : (request : Request) (word : WordId) → article_changed old request ≡ Some word → Step IsSpent old request reply new
+      → Changes old.stored new.stored word
+  article_done (requests.OnArticle form asked) word is step =
+      named_changes asked word (word_named old.stored form) is (does_of (requests.OnArticle form asked) step)
+  article_done (requests.OnSession number of_session.Commit) word is step =
+      let there = session_there number of_session.Commit step in
+      let same : there.it.article ≡ word =
+      same_Some there.it.article word (sym (ap (option_map (λ (s : PlainSession). s.article)) there.named) ∙ is) in
+      subst (Changes old.stored new.stored) same (record { change = _; after = ap (λ (s : State). s.stored) there.is.after })
   article_done request word is step = absurd (none-some word is)
 
   -- a done request that changes no words and no article leaves what is stored
-  pub others_keep : (request : Request) → changes_words request ≡ false → article_changed old request ≡ None → Step old request reply new
-      → new.pages ≡ old.pages
-  others_keep (requests.Word kind forms) no_words none step = absurd (false≢true (sym no_words))
-  others_keep (requests.Reword form forms) no_words none step = absurd (false≢true (sym no_words))
-  others_keep (requests.Unword form) no_words none step = absurd (false≢true (sym no_words))
-  others_keep (requests.Grammar text) no_words none step = absurd (false≢true (sym no_words))
-  others_keep (requests.Find word) no_words none step = (does_pages (requests.Find word) step.pages).after
-  others_keep requests.Words no_words none step = (does_pages requests.Words step.pages).after
-  others_keep (requests.Parse text) no_words none step = (does_pages (requests.Parse text) step.pages).after
-  others_keep (requests.Read form) no_words none step = (does_pages (requests.Read form) step.pages).after
-  others_keep (requests.Axioms form place) no_words none step = (does_pages (requests.Axioms form place) step.pages).after
-  others_keep (requests.Add form given text) no_words none step =
-      let does = does_pages (requests.Add form given text) step.pages in
-      absurd (none-some does.word (sym none ∙ does.named))
-  others_keep (requests.Edit form place text) no_words none step =
-      let does = does_pages (requests.Edit form place text) step.pages in
-      absurd (none-some does.word (sym none ∙ does.named))
-  others_keep (requests.Remove form place) no_words none step =
-      let does = does_pages (requests.Remove form place) step.pages in
-      absurd (none-some does.word (sym none ∙ does.named))
-  others_keep (requests.Retract form place) no_words none step =
-      let does = does_pages (requests.Retract form place) step.pages in
-      absurd (none-some does.word (sym none ∙ does.named))
-  others_keep (requests.Reassert form place) no_words none step =
-      let does = does_pages (requests.Reassert form place) step.pages in
-      absurd (none-some does.word (sym none ∙ does.named))
-  others_keep (requests.Commit session) no_words none step =
-      let does = (does_session (requests.Commit session) step).1 in
-      absurd (none-some does.session.article (sym none ∙ ap (option_map (λ (s : PlainSession). s.article)) does.named))
-  others_keep (requests.Begin form) no_words none step = ap (λ (s : State). s.pages) (does_session (requests.Begin form) step).1.after
-  others_keep (requests.Put session text) no_words none step = ap (λ (s : State). s.pages) (does_session (requests.Put session text) step).1.after
-  others_keep (requests.Back session) no_words none step = ap (λ (s : State). s.pages) (does_session (requests.Back session) step).1.after
-  others_keep (requests.Menu session) no_words none step = ap (λ (s : State). s.pages) (does_session (requests.Menu session) step).1.after
-  others_keep (requests.Refresh session) no_words none step = ap (λ (s : State). s.pages) (does_session (requests.Refresh session) step).1.after
-  others_keep (requests.Drop session) no_words none step = ap (λ (s : State). s.pages) (does_session (requests.Drop session) step).1.after
+  pub others_keep : (request : Request) → changes_words request ≡ false → article_changed old request ≡ None → Step IsSpent old request reply new
+      → new.stored ≡ old.stored
+  others_keep (requests.OnWiki (of_wiki.Word kind forms)) no_words none step = absurd (false≢true (sym no_words))
+  others_keep (requests.OnWord form (of_word.Reword forms)) no_words none step = absurd (false≢true (sym no_words))
+  others_keep (requests.OnWord form of_word.Unword) no_words none step = absurd (false≢true (sym no_words))
+  others_keep (requests.OnWiki (of_wiki.Grammar text)) no_words none step = absurd (false≢true (sym no_words))
+  others_keep (requests.OnWiki of_wiki.Words) no_words none step =
+      ap (λ (s : State). s.stored) (does_of (requests.OnWiki of_wiki.Words) step).1
+  others_keep (requests.OnWiki (of_wiki.Parse text)) no_words none step =
+      ap (λ (s : State). s.stored) (does_of (requests.OnWiki (of_wiki.Parse text)) step).1
+  others_keep (requests.OnWord form of_word.Find) no_words none step =
+      let there = some_is (word_with old.stored form) (λ (w : Word). DoesOnWord of_word.Find w old reply new)
+      (does_of (requests.OnWord form of_word.Find) step) in
+      ap (λ (s : State). s.stored) there.is.1
+  others_keep (requests.OnArticle form asked) no_words none step =
+      named_stays asked (word_named old.stored form) none (does_of (requests.OnArticle form asked) step)
+  others_keep (requests.OnSession number of_session.Commit) no_words none step =
+      let there = session_there number of_session.Commit step in
+      absurd (none-some there.it.article (sym none ∙ ap (option_map (λ (s : PlainSession). s.article)) there.named))
+  others_keep (requests.OnSession number (of_session.Type text)) no_words none step =
+      ap (λ (s : State). s.stored) (session_there number (of_session.Type text) step).is.after
+  others_keep (requests.OnSession number of_session.Back) no_words none step =
+      ap (λ (s : State). s.stored) (session_there number of_session.Back step).is.after
+  others_keep (requests.OnSession number of_session.Menu) no_words none step =
+      ap (λ (s : State). s.stored) (session_there number of_session.Menu step).is.1
+  others_keep (requests.OnSession number of_session.Refresh) no_words none step =
+      ap (λ (s : State). s.stored) (session_there number of_session.Refresh step).is.after
+  others_keep (requests.OnSession number of_session.Drop) no_words none step =
+      ap (λ (s : State). s.stored) (session_there number of_session.Drop step).is.after

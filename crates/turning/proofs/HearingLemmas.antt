@@ -3,17 +3,19 @@ use Rattle.std.proofs.Common.{◌≡◌, ℕ, ◌≤◌, List, [], ◌∷◌, �
 use Rattle.std.specs.List.{flat_map}
 use Rattle.std.specs.Option.{option_map_or}
 use Rattle.codeco_terms.specs.GrammarParts.{GrammarParts}
-use Rattle.sessions.specs.Sessions.{PlainSession}
+use Rattle.plain_wiki.specs.Sessions.{PlainSession}
 use Rattle.wiki_talk.specs.declared.replies.Reply.{Reply}
 use Rattle.wiki_talk.specs.declared.replies.Reply.TheVariants as replies
 use Rattle.wiki_talk.specs.declared.requests.Request.{Request}
 use Rattle.wiki_talk.specs.declared.requests.Request.TheVariants as requests
+use Rattle.wiki_talk.specs.declared.requests.ArticleRequest.TheVariants as of_article
 use Rattle.wiki_talk.specs.declared.requests.LineRequest.{LineRequest}
 use Rattle.wiki_talk.specs.declared.requests.LineRequest.TheVariants as lines
 use Rattle.wiki_talk.specs.Turns.{Exchange, answered, no_request, Turns}
-use Rattle.wiki_core.specs.State.{State, first_state}
-use Rattle.wiki_core.specs.Causes.{session_numbered}
-use Rattle.wiki_core.specs.Step.{StepsSession, Step}
+use Rattle.plain_wiki.specs.State.{State, first_state}
+use Rattle.plain_wiki.specs.Places.{session_numbered}
+use Rattle.plain_wiki.specs.Step.{Step}
+use Rattle.wiki_parts.specs.Spending.{IsCutOff}
 use Rattle.wiki_core.specs.Holding.{Holding, first_holding}
 use Rattle.wiki_core.specs.Stepping.{KeptStep}
 use Rattle.wiki_core.specs.Apart as apart
@@ -27,9 +29,9 @@ use Rattle.turning.proofs.MoveLemmas.{KeepsSessions, keeps_same, moved}
 
 -- ---- runs as sessions hear them
 
--- a request is one step, and what is no request leaves the grammar, the words and the sessions
+-- a request is one step with some budget, and what is no request leaves the grammar, the words and the sessions
 abbrev HearTurn : State → Exchange Request Reply → State → Type 0
-HearTurn old (answered request reply) new = Step old request reply new
+HearTurn old (answered request reply) new = (budget : ℕ) × Step (IsCutOff budget) old request reply new
 HearTurn old no_request new = KeepsSessions old new
 
 abbrev HearTurns : State → List (Exchange Request Reply) → State → Type 0
@@ -40,7 +42,7 @@ hear_lines : (of_lines : List (Exchange LineRequest Reply)) (first last : Recall
     → HearTurns first.wiki.state (map exchange_of of_lines) last.wiki.state
 hear_lines [] first last turns = ap (λ (r : Recalling). r.wiki.state) turns
 hear_lines (answered (lines.Step request) reply ∷ of_lines) first last (next, turn, turns) =
-    (next.wiki.state, turn.0.step, hear_lines of_lines next last turns)
+    (next.wiki.state, (first.wiki.budget, turn.0.step), hear_lines of_lines next last turns)
 hear_lines (answered lines.Undo reply ∷ of_lines) first last (next, turn, turns) = (
   next.wiki.state,
   moved first.wiki first.past first.future replies.Undo reply next.wiki next.past next.future turn,
@@ -59,7 +61,8 @@ hear_lines (no_request ∷ of_lines) first last (next, same, turns) = (
 
 hear_steps : (more : List (Exchange Request Reply)) (first last : Holding) → Turns KeptStep first more last → HearTurns first.state more last.state
 hear_steps [] first last turns = ap (λ (w : Holding). w.state) turns
-hear_steps (answered request reply ∷ more) first last (next, step, turns) = (next.state, step.step, hear_steps more next last turns)
+hear_steps (answered request reply ∷ more) first last (next, step, turns) =
+    (next.state, (first.budget, step.step), hear_steps more next last turns)
 hear_steps (no_request ∷ more) first last (next, same, turns) =
     (next.state, keeps_same first.state next.state (ap (λ (w : Holding). w.state) same), hear_steps more next last turns)
 
@@ -79,7 +82,7 @@ hear_run first of_lines more last run =
 -- where sessions stay, each sees what it saw
 seen_kept : (old new : State) (number : ℕ) → KeepsSessions old new → seen new number ≡ seen old number
 seen_kept old new number keeps =
-    seen_is (seen new number) (seen old number) (shared_is old.pages new.pages keeps.grammar keeps.words)
+    seen_is (seen new number) (seen old number) (shared_is old.stored new.stored keeps.grammar keeps.words)
     (ap (λ (sessions : List PlainSession). own_of sessions number) keeps.sessions)
 
 pub apt_kept : (old new : State) → KeepsSessions old new → IsApt old → IsApt new
@@ -95,8 +98,8 @@ run_open number (no_request ∷ exchanges) old last apt below (next, keeps, rest
     subst (λ (s : Seen). Follows s (flat_map (apart.heard_open number) exchanges) (seen last number)) (seen_kept old next number keeps)
     (run_open number exchanges next last (apt_kept old next keeps apt)
     (subst (λ (n : ℕ). number ≤ n) (sym keeps.last) below) rest)
-run_open number (answered request reply ∷ exchanges) old last apt below (next, step, rest) =
-    let shows = open_step old next number apt below request reply step in
+run_open number (answered request reply ∷ exchanges) old last apt below (next, (budget, step), rest) =
+    let shows = open_step (IsCutOff budget) old next number apt below request reply step in
     let later = shows.later in
     follows_append (seen old number) (apart.heard_open number (answered request reply)) (seen next number) (flat_map (apart.heard_open number) exchanges)
     (seen last number) shows.follows
@@ -112,7 +115,7 @@ run_before number (no_request ∷ exchanges) old last apt none (next, keeps, res
     (run_before number exchanges next last (apt_kept old next keeps apt)
     (none_seen (session_numbered next number)
     (ap (λ (s : Seen). s.own) (seen_kept old next number keeps) ∙ ap (option_map own) none)) rest)
-run_before number (answered request reply ∷ exchanges) old last apt none (next, step, rest) =
+run_before number (answered request reply ∷ exchanges) old last apt none (next, (budget, step), rest) =
     by_case (apart.opened_by number (answered request reply)) refl (run_before number exchanges next last)
   where
     by_case : (o : Option (List ℕ)) → apart.opened_by number (answered request reply) ≡ o
@@ -122,7 +125,7 @@ run_before number (answered request reply ∷ exchanges) old last apt none (next
         (option_map_or (λ form. apart.opened form ∷ flat_map (apart.heard_open number) exchanges) o
         (apart.heard_of_words (answered request reply) ++ apart.heard_by number exchanges)) (seen last number)
     by_case None is going_on =
-        let shows = before_step old next number apt none request reply is step in
+        let shows = before_step (IsCutOff budget) old next number apt none request reply is step in
         let still = none_seen (session_numbered next number)
         (none_follows (seen old number) (seen next number) request reply shows.follows (ap (option_map own) none)) in
         follows_append (seen old number) (apart.heard_of_words (answered request reply)) (seen next number) (apart.heard_by number exchanges)
@@ -130,9 +133,10 @@ run_before number (answered request reply ∷ exchanges) old last apt none (next
         (going_on shows.apt still rest)
     by_case (Some form) is going_on =
         let opens = opens_by number request reply form is in
-        let step_on : StepsSession old (requests.Begin form) (replies.Begin number) next =
-        subst (λ (r : Reply). Step old (requests.Begin form) r next) opens.told (subst (λ (q : Request). Step old q reply next) opens.asked step) in
-        let shows = begin_shows old next number apt form none step_on in
+        let step_on : Step (IsCutOff budget) old (requests.OnArticle form of_article.Open) (replies.Open number) next =
+        subst (λ (r : Reply). Step (IsCutOff budget) old (requests.OnArticle form of_article.Open) r next) opens.told
+        (subst (λ (q : Request). Step (IsCutOff budget) old q reply next) opens.asked step) in
+        let shows = begin_shows (IsCutOff budget) old next number apt form none step_on in
         follows_append (seen old number) (apart.opened form ∷ []) (seen next number) (flat_map (apart.heard_open number) exchanges) (seen last number)
         shows.0.follows
         (run_open number exchanges next last shows.0.apt shows.1 rest)
@@ -141,11 +145,11 @@ run_before number (answered request reply ∷ exchanges) old last apt none (next
 pub tokens_own_recalling : (g : GrammarParts) → TokensAreOwn g
 tokens_own_recalling g budget its_budget of_lines its_lines more its_more last its_last number its_number run its_run same =
     let heard : List apart.Heard = apart.heard_by number (exchanges_of of_lines more) in
-    let follows = run_before number (exchanges_of of_lines more) (first_state g budget) last.state (omega arith) refl
+    let follows = run_before number (exchanges_of of_lines more) (first_state g) last.state (omega arith) refl
     (hear_run (without_history (first_holding g budget)) of_lines more last run) in
-    let its_follows = run_before its_number (exchanges_of its_lines its_more) (first_state g its_budget) its_last.state (omega arith) refl
+    let its_follows = run_before its_number (exchanges_of its_lines its_more) (first_state g) its_last.state (omega arith) refl
     (hear_run (without_history (first_holding g its_budget)) its_lines its_more its_last its_run) in
-    let seen_same = follows_one (seen (first_state g budget) number) heard (seen last.state number) (seen its_last.state its_number) follows
-    (subst (λ (hs : List apart.Heard). Follows (seen (first_state g budget) number) hs (seen its_last.state its_number)) (sym same) its_follows) in
+    let seen_same = follows_one (seen (first_state g) number) heard (seen last.state number) (seen its_last.state its_number) follows
+    (subst (λ (hs : List apart.Heard). Follows (seen (first_state g) number) hs (seen its_last.state its_number)) (sym same) its_follows) in
     tokens_seen last.state number ∙ ap (λ (s : Seen). option_map (λ (o : Own). o.tokens) s.own) (sym seen_same)
     ∙ sym (tokens_seen its_last.state its_number)

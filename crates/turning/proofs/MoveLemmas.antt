@@ -4,15 +4,15 @@ use Rattle.std.proofs.lemmas.Bool.{false≢true}
 use Rattle.wiki_talk.specs.declared.refusals.Refusal.{Refusal}
 use Rattle.wiki_talk.specs.declared.replies.Reply.{Reply}
 use Rattle.wiki_talk.specs.declared.replies.Reply.TheVariants as replies
-use Rattle.wiki_core.specs.State.{State}
+use Rattle.plain_wiki.specs.State.{State}
 use Rattle.wiki_core.specs.Holding.{Holding}
 use Rattle.turning.specs.Turning.{Former, HasNothing, IsAtLastRevision, PutsBack, Moves}
 use Rattle.turning.specs.Laws.{is_refused}
 
 -- the grammar, the words and the sessions stay
 pub record KeepsSessions (old new : State) : Type 0 where
-  pub grammar : new.pages.grammar ≡ old.pages.grammar
-  pub words : new.pages.words ≡ old.pages.words
+  pub grammar : new.stored.grammar ≡ old.stored.grammar
+  pub words : new.stored.words ≡ old.stored.words
   pub sessions : new.sessions ≡ old.sessions
   pub last : new.last ≡ old.last
 

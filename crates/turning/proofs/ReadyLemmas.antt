@@ -1,5 +1,5 @@
 -- A run of lines leaves a wiki ready: what it shows is read as it was. And each change of its requests fits a short line.
-use Rattle.std.proofs.Common.{◌≡◌, ℕ, List, [], ◌∷◌, ◌++◌, map, All, sym, subst}
+use Rattle.std.proofs.Common.{ℕ, List, [], ◌∷◌, ◌++◌, map, All, sym, subst}
 use Rattle.std.proofs.lemmas.List.Elements.{All-nil, All-cons, All-head, All-tail, All-append}
 use Rattle.codeco_terms.specs.GrammarParts.{GrammarParts}
 use Rattle.codeco_checked.specs.Sound.{IsSound}
@@ -10,8 +10,10 @@ use Rattle.wiki_talk.specs.declared.requests.Request.{Request}
 use Rattle.wiki_talk.specs.declared.requests.LineRequest.{LineRequest}
 use Rattle.wiki_talk.specs.declared.requests.LineRequest.TheVariants as lines
 use Rattle.wiki_talk.specs.Turns.{Exchange, answered, no_request, Turns}
-use Rattle.wiki_core.specs.State.{State}
-use Rattle.wiki_core.specs.Step.{Step}
+use Rattle.plain_wiki.specs.State.{State}
+use Rattle.plain_wiki.specs.Knowledge.{Spending}
+use Rattle.plain_wiki.specs.Step.{Step}
+use Rattle.wiki_parts.specs.Spending.{IsCutOff}
 use Rattle.wiki_core.specs.Holding.{Holding, first_holding}
 use Rattle.wiki_core.specs.Stepping.{KeptStep}
 use Rattle.wiki_core.specs.Journaled as core
@@ -29,25 +31,25 @@ use Rattle.turning.proofs.HearingLemmas.{apt_kept}
 -- a wiki that is ready, over a grammar whose terminals are in UTF-8
 pub record IsReadyPlain (state : State) : Type 0 where
   pub ready : IsReady state
-  pub utf8 : AreUtf8 state.pages.grammar.terminals
+  pub utf8 : AreUtf8 state.stored.grammar.terminals
 
 ready_kept : (old new : State) → KeepsSessions old new → IsReadyPlain old → IsReadyPlain new
 ready_kept old new keeps plain = record {
   ready = record {
-    pages =
-        subst (λ (g : GrammarParts). AreReady g new.pages.words) (sym keeps.grammar)
-        (subst (λ (words : Listed). AreReady old.pages.grammar words) (sym keeps.words) plain.ready.pages);
+    stored =
+        subst (λ (g : GrammarParts). AreReady g new.stored.words) (sym keeps.grammar)
+        (subst (λ (words : Listed). AreReady old.stored.grammar words) (sym keeps.words) plain.ready.stored);
     apt = apt_kept old new keeps plain.ready.apt;
     short = subst AreShortSessions (sym keeps.sessions) plain.ready.short;
   };
   utf8 = subst (λ (g : GrammarParts). AreUtf8 g.terminals) (sym keeps.grammar) plain.utf8;
 }
 
-ready_step : (old new : State) (request : Request) (reply : Reply) → IsHeld request → GivesUnraised request → Step old request reply new
-    → IsReadyPlain old → IsReadyPlain new
-ready_step old new request reply held unraised step plain = record {
-  ready = stays_ready old new reply plain.ready request held.utf8 unraised step;
-  utf8 = stays_utf8 old new reply request held.utf8 plain.utf8 step;
+ready_step : (IsSpent : Spending) (old new : State) (request : Request) (reply : Reply) → IsHeld request → GivesUnraised request
+    → Step IsSpent old request reply new → IsReadyPlain old → IsReadyPlain new
+ready_step IsSpent old new request reply held unraised step plain = record {
+  ready = stays_ready IsSpent old reply new plain.ready request held.utf8 unraised step;
+  utf8 = stays_utf8 IsSpent old reply new request held.utf8 plain.utf8 step;
 }
 
 -- what is asked in both parts of a run is asked in each
@@ -65,7 +67,8 @@ ready_lines [] first last turns unraised plain = subst (λ (r : Recalling). IsRe
 ready_lines (answered (lines.Step request) reply ∷ of_lines) first last (next, turn, turns) unraised plain =
     let asked = core.asked_of (map exchange_of of_lines) in
     ready_lines of_lines next last turns (All-tail GivesUnraised request asked unraised)
-    (ready_step first.wiki.state next.wiki.state request reply turn.0.held (All-head GivesUnraised request asked unraised) turn.0.step plain)
+    (ready_step (IsCutOff first.wiki.budget) first.wiki.state next.wiki.state request reply turn.0.held (All-head GivesUnraised request asked unraised)
+    turn.0.step plain)
 ready_lines (answered lines.Undo reply ∷ of_lines) first last (next, turn, turns) unraised plain =
     ready_lines of_lines next last turns unraised (ready_kept first.wiki.state next.wiki.state
     (moved first.wiki first.past first.future replies.Undo reply next.wiki next.past next.future turn) plain)
@@ -81,7 +84,7 @@ pub lines_ready : (g : GrammarParts) → IsSound g → NoneIsRaised g.terminals 
     → All GivesUnraised (core.asked_of (map exchange_of of_lines)) → IsReadyPlain last.wiki.state
 lines_ready g sound apart utf8 budget of_lines last turns unraised =
     ready_lines of_lines (without_history (first_holding g budget)) last turns unraised
-    (record { ready = first_ready g budget sound apart; utf8 = utf8 })
+    (record { ready = first_ready g sound apart; utf8 = utf8 })
 
 -- ---- changes in lines
 
@@ -93,9 +96,10 @@ steps_fit (no_request ∷ more) first last plain unraised (next, same, turns) =
 steps_fit (answered request reply ∷ more) first last plain unraised (next, step, turns) =
     All-append FitsLine (changes_by request reply) (changes_of more)
     (all_from_each (changes_by request reply)
-    (step_fits first.state plain.ready plain.utf8 reply next.state request step.held.utf8 step.held.place step.step))
+    (step_fits (IsCutOff first.budget) first.state plain.ready plain.utf8 reply next.state request step.held.utf8 step.held.place step.step))
     (steps_fit more next last
-    (ready_step first.state next.state request reply step.held (All-head GivesUnraised request (core.asked_of more) unraised) step.step plain)
+    (ready_step (IsCutOff first.budget) first.state next.state request reply step.held (All-head GivesUnraised request (core.asked_of more) unraised)
+    step.step plain)
     (All-tail GivesUnraised request (core.asked_of more) unraised) turns)
 
 -- each change of a run's requests fits a short line

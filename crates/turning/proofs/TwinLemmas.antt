@@ -9,7 +9,6 @@ use Rattle.wiki_talk.specs.declared.refusals.Refusal.{Refusal}
 use Rattle.wiki_talk.specs.declared.replies.Reply.{Reply}
 use Rattle.wiki_talk.specs.declared.replies.Reply.TheVariants as replies
 use Rattle.wiki_talk.specs.declared.requests.Request.{Request}
-use Rattle.wiki_talk.specs.declared.requests.Request.TheVariants as requests
 use Rattle.wiki_talk.specs.declared.requests.LineRequest.{LineRequest}
 use Rattle.wiki_talk.specs.declared.requests.LineRequest.TheVariants as lines
 use Rattle.wiki_talk.specs.Turns.{answered}
@@ -17,17 +16,16 @@ use Rattle.articles.specs.declared.article.Article.{Article}
 use Rattle.articles.specs.Articles.{article_of}
 use Rattle.articles.proofs.BareLaws.{Bare}
 use Rattle.history.specs.declared.history.TheConstants.{MOST_ENTRIES}
-use Rattle.wiki_parts.specs.State as parts
-use Rattle.wiki_store.specs.Step as store
 use Rattle.wiki_store.specs.PuttingBack.{with_sentences}
-use Rattle.wiki_core.specs.State.{State}
+use Rattle.plain_wiki.specs.State.{State}
 use Rattle.wiki_core.specs.Holding.{Holding}
 use Rattle.wiki_core.specs.Keeping.{changes_words}
-use Rattle.wiki_core.specs.Step.{Step, StepsPages, StepsSession, Refuses, IsFree}
+use Rattle.plain_wiki.specs.Knowledge.{Spending}
+use Rattle.plain_wiki.specs.Step.{Step}
+use Rattle.plain_wiki.specs.Against.{Refuses, IsFree}
 use Rattle.wiki_core.specs.Journaled.{tells_spent, is_spent_in}
-use Rattle.wiki_core.proofs.OneStepLemmas as one
-use Rattle.wiki_core.proofs.WholeStepLemmas as whole
-use Rattle.wiki_core.proofs.WholeStepLemmas.{state_at, step_one}
+use Rattle.wiki_parts.specs.Spending.{IsCutOff}
+use Rattle.wiki_core.proofs.OneStepLemmas.{step_one}
 use Rattle.turning.specs.Turning.{Former, Recalling, standing, standing_of, article_changed, NotesChange, Forgets, Remembers, CarriesHistory, HasNothing, IsAtLastRevision, PutsBack, Moves, KeptTurn}
 use Rattle.turning.specs.Laws.{exchange_of, is_refused}
 use Rattle.turning.proofs.MoveLemmas.{IsStill, move_outcome}
@@ -37,58 +35,31 @@ abbrev pub stood : Former → Bare
 stood former = (former.article, former.sentences)
 
 -- two wikis that differ in their budgets, and in interpretations, alone
-pub record AreTwins (one : Recalling) (budget : ℕ) (other : Recalling) : Type 0 where
-  pub state : other.wiki.state ≡ state_at one.wiki.state budget
+pub record AreTwins (one other : Recalling) : Type 0 where
+  pub state : other.wiki.state ≡ one.wiki.state
   pub past : map stood other.past ≡ map stood one.past
   pub future : map stood other.future ≡ map stood one.future
 
 -- ---- both are refused, or both are done
 
--- what stands against a request on words and sentences, or nothing
-store_outcome : (old : parts.State) (request : Request) (reply : Reply) (new : parts.State) → store.Step old request reply new
-    → ((refusal : Refusal) × store.Refuses old request refusal × (is_refused reply ≡ true)) ⊎ (store.IsFree old request × (is_refused reply ≡ false))
-store_outcome old request (replies.Refused refusal) new step = inl (refusal, step.0, refl)
-store_outcome old request reply new step = inr (step.0, refl)
+-- what stands against a request, or nothing
+abbrev Stands : State → Request → Reply → Type 0
+Stands old request reply = ((refusal : Refusal) × Refuses old request refusal × (is_refused reply ≡ true)) ⊎ (IsFree old request × (is_refused reply ≡ false))
 
-commit_outcome : (old : State) (number : ℕ) (reply : Reply) (new : State) → StepsSession old (requests.Commit number) reply new
-    → ((refusal : Refusal) × Refuses old (requests.Commit number) refusal × (is_refused reply ≡ true))
-    ⊎ (IsFree old (requests.Commit number) × (is_refused reply ≡ false))
-commit_outcome old number (replies.Refused refusal) new step = inl (refusal, step.0, refl)
-commit_outcome old number reply new step = inr (step.0, refl)
+outcome : (IsSpent : Spending) (old : State) (request : Request) (reply : Reply) (new : State) → Step IsSpent old request reply new → Stands old request reply
+outcome IsSpent old request (replies.Refused refusal) new step = inl (refusal, step.0, refl)
+outcome IsSpent old request reply new step = inr (step.0, refl)
 
-module _ (old : State) (budget : ℕ) (said its : Reply) (new its_new : State) where
-  store_refused : (request : Request) → StepsPages old request said new → StepsPages (state_at old budget) request its its_new
-      → is_refused its ≡ is_refused said
-  store_refused request step its_step =
-      by (store_outcome old.pages request said new.pages step.pages)
-      (store_outcome (one.at_budget old.pages budget) request its its_new.pages its_step.pages)
-    where
-      by : ((refusal : Refusal) × store.Refuses old.pages request refusal × (is_refused said ≡ true))
-          ⊎ (store.IsFree old.pages request × (is_refused said ≡ false))
-          → ((refusal : Refusal) × store.Refuses (one.at_budget old.pages budget) request refusal × (is_refused its ≡ true))
-          ⊎ (store.IsFree (one.at_budget old.pages budget) request × (is_refused its ≡ false))
-          → is_refused its ≡ is_refused said
-      by (inl (refusal, refuses, is)) (inl (other, also, its_is)) = its_is ∙ sym is
-      by (inl (refusal, refuses, is)) (inr (free, its_is)) = absurd (free refusal (one.refuses_alike old.pages budget request refusal refuses))
-      by (inr (free, is)) (inl (refusal, refuses, its_is)) =
-          absurd (free refusal (one.refuses_alike (one.at_budget old.pages budget) old.pages.budget request refusal refuses))
-      by (inr (free, is)) (inr (also, its_is)) = its_is ∙ sym is
-
-  commit_refused : (number : ℕ) → StepsSession old (requests.Commit number) said new → StepsSession (state_at old budget) (requests.Commit number) its its_new
-      → is_refused its ≡ is_refused said
-  commit_refused number step its_step =
-      by (commit_outcome old number said new step) (commit_outcome (state_at old budget) number its its_new its_step)
-    where
-      by : ((refusal : Refusal) × Refuses old (requests.Commit number) refusal × (is_refused said ≡ true))
-          ⊎ (IsFree old (requests.Commit number) × (is_refused said ≡ false))
-          → ((refusal : Refusal) × Refuses (state_at old budget) (requests.Commit number) refusal × (is_refused its ≡ true))
-          ⊎ (IsFree (state_at old budget) (requests.Commit number) × (is_refused its ≡ false))
-          → is_refused its ≡ is_refused said
-      by (inl (refusal, refuses, is)) (inl (other, also, its_is)) = its_is ∙ sym is
-      by (inl (refusal, refuses, is)) (inr (free, its_is)) = absurd (free refusal (whole.refuses_alike old budget (requests.Commit number) refusal refuses))
-      by (inr (free, is)) (inl (refusal, refuses, its_is)) =
-          absurd (free refusal (whole.refuses_alike (state_at old budget) old.pages.budget (requests.Commit number) refusal refuses))
-      by (inr (free, is)) (inr (also, its_is)) = its_is ∙ sym is
+refused_alike : (IsSpent ItsSpent : Spending) (old : State) (request : Request) (said its : Reply) (new its_new : State) → Step IsSpent old request said new
+    → Step ItsSpent old request its its_new → is_refused its ≡ is_refused said
+refused_alike IsSpent ItsSpent old request said its new its_new step its_step =
+    by (outcome IsSpent old request said new step) (outcome ItsSpent old request its its_new its_step)
+  where
+    by : Stands old request said → Stands old request its → is_refused its ≡ is_refused said
+    by (inl (refusal, refuses, is)) (inl (other, also, its_is)) = its_is ∙ sym is
+    by (inl (refusal, refuses, is)) (inr (free, its_is)) = absurd (free refusal refuses)
+    by (inr (free, is)) (inl (refusal, refuses, its_is)) = absurd (free refusal refuses)
+    by (inr (free, is)) (inr (also, its_is)) = its_is ∙ sym is
 
 -- ---- what a request leaves of the history
 
@@ -107,29 +78,6 @@ pub done_leaves : (old : Recalling) (request : Request) (reply : Reply) (new : R
 done_leaves old request (replies.Refused refusal) new is carries = absurd (false≢true (sym is))
 done_leaves old request reply new is carries = carries
 
--- a request that changes no words and no article leaves it
-other_leaves : (old : Recalling) (request : Request) (reply : Reply) (new : Recalling) → changes_words request ≡ false
-    → article_changed old.wiki.state request ≡ None → CarriesHistory old request reply new → Remembers old new
-other_leaves old request reply new no_words none carries = by (is_refused reply) refl
-  where
-    by : (b : Bool) → is_refused reply ≡ b → Remembers old new
-    by true refused = refused_leaves old request reply new refused carries
-    by false done =
-        let leaves : LeavesHistory old request new = done_leaves old request reply new done carries in
-        subst (λ (o : Option WordId). MatchOption o (Remembers old new) (NotesChange old new)) none
-        (subst (λ (b : Bool). MatchBool b (Forgets new) (MatchOption (article_changed old.wiki.state request) (Remembers old new) (NotesChange old new)))
-        no_words leaves)
-
--- the article that a request changes doesn't hang on the budget
-changed_at : (state : State) (budget : ℕ) (request : Request) → article_changed (state_at state budget) request ≡ article_changed state request
-changed_at state budget (requests.Add form place text) = refl
-changed_at state budget (requests.Edit form place text) = refl
-changed_at state budget (requests.Remove form place) = refl
-changed_at state budget (requests.Retract form place) = refl
-changed_at state budget (requests.Reassert form place) = refl
-changed_at state budget (requests.Commit session) = refl
-changed_at state budget request = refl
-
 taken_map : {X Y : Type 0} (f : X → Y) (n : ℕ) (xs : List X) → map f (take n xs) ≡ take n (map f xs)
 taken_map f zero xs = refl
 taken_map f (suc n) [] = refl
@@ -139,8 +87,8 @@ taken_map {X} {Y} f (suc n) (x ∷ xs) = ap (λ (ys : List Y). f x ∷ ys) (take
 abbrev bare_of : List Article → WordId → Option Bare
 bare_of articles word = option_map (λ (a : Article). (word, a.sentences)) (article_of articles word)
 
-stood_of : (wiki : Holding) (word : WordId) → option_map stood (standing_of wiki word) ≡ bare_of wiki.state.pages.articles word
-stood_of wiki word = by (article_of wiki.state.pages.articles word)
+stood_of : (wiki : Holding) (word : WordId) → option_map stood (standing_of wiki word) ≡ bare_of wiki.state.stored.articles word
+stood_of wiki word = by (article_of wiki.state.stored.articles word)
   where
     by : (o : Option Article) → option_map stood (option_map (λ (a : Article). standing wiki word a.sentences) o)
         ≡ option_map (λ (a : Article). (word, a.sentences)) o
@@ -151,9 +99,9 @@ stood_of wiki word = by (article_of wiki.state.pages.articles word)
 abbrev HaveSame : Recalling → Recalling → Type 0
 HaveSame one other = (map stood other.past ≡ map stood one.past) × (map stood other.future ≡ map stood one.future)
 
-module _ (old : Recalling) (budget : ℕ) (other new its_new : Recalling) (twins : AreTwins old budget other) where
-  same_articles : other.wiki.state.pages.articles ≡ old.wiki.state.pages.articles
-  same_articles = ap (λ (s : State). s.pages.articles) twins.state
+module _ (old other new its_new : Recalling) (twins : AreTwins old other) where
+  same_articles : other.wiki.state.stored.articles ≡ old.wiki.state.stored.articles
+  same_articles = ap (λ (s : State). s.stored.articles) twins.state
 
   remember_alike : Remembers old new → Remembers other its_new → HaveSame new its_new
   remember_alike is its = (
@@ -178,7 +126,7 @@ module _ (old : Recalling) (budget : ℕ) (other new its_new : Recalling) (twins
   leave_alike request is its =
       by (changes_words request) (article_changed old.wiki.state request) is
       (subst (λ (o : Option WordId). MatchBool (changes_words request) (Forgets its_new) (MatchOption o (Remembers other its_new) (NotesChange other its_new)))
-      (ap (λ (s : State). article_changed s request) twins.state ∙ changed_at old.wiki.state budget request) its)
+      (ap (λ (s : State). article_changed s request) twins.state) its)
     where
       by : (b : Bool) (o : Option WordId) → MatchBool b (Forgets new) (MatchOption o (Remembers old new) (NotesChange old new))
           → MatchBool b (Forgets its_new) (MatchOption o (Remembers other its_new) (NotesChange other its_new)) → HaveSame new its_new
@@ -194,36 +142,17 @@ module _ (old : Recalling) (budget : ℕ) (other new its_new : Recalling) (twins
       by true refused = remember_alike (refused_leaves old request said new refused is) (refused_leaves other request reply its_new (same ∙ refused) its)
       by false done = leave_alike request (done_leaves old request said new done is) (done_leaves other request reply its_new (same ∙ done) its)
 
-  -- a request that changes no words and no article leaves the history, whatever is replied
-  other_alike : (request : Request) (said reply : Reply) → changes_words request ≡ false → article_changed old.wiki.state request ≡ None
-      → article_changed other.wiki.state request ≡ None → CarriesHistory old request said new → CarriesHistory other request reply its_new
-      → HaveSame new its_new
-  other_alike request said reply no_words none its_none is its =
-      remember_alike (other_leaves old request said new no_words none is) (other_leaves other request reply its_new no_words its_none its)
-
-  history_alike : (request : Request) (said reply : Reply) → Step old.wiki.state request said new.wiki.state
-      → Step (state_at old.wiki.state budget) request reply its_new.wiki.state → CarriesHistory old request said new
-      → CarriesHistory other request reply its_new → HaveSame new its_new
-  history_alike (requests.Begin article) said reply step its_step is its = other_alike (requests.Begin article) said reply refl refl refl is its
-  history_alike (requests.Put session text) said reply step its_step is its = other_alike (requests.Put session text) said reply refl refl refl is its
-  history_alike (requests.Back session) said reply step its_step is its = other_alike (requests.Back session) said reply refl refl refl is its
-  history_alike (requests.Menu session) said reply step its_step is its = other_alike (requests.Menu session) said reply refl refl refl is its
-  history_alike (requests.Refresh session) said reply step its_step is its = other_alike (requests.Refresh session) said reply refl refl refl is its
-  history_alike (requests.Drop session) said reply step its_step is its = other_alike (requests.Drop session) said reply refl refl refl is its
-  history_alike (requests.Commit session) said reply step its_step is its =
-      carry_alike (requests.Commit session) said reply (commit_refused old.wiki.state budget said reply new.wiki.state its_new.wiki.state session step its_step)
-      is its
-  history_alike request said reply step its_step is its =
-      carry_alike request said reply (store_refused old.wiki.state budget said reply new.wiki.state its_new.wiki.state request step its_step) is its
-
   step_alike : (request : Request) (said reply : Reply) → KeptTurn old (lines.Step request) said new → KeptTurn other (lines.Step request) reply its_new
-      → tells_spent said ≡ false → tells_spent reply ≡ false → AreTwins new budget its_new
+      → tells_spent said ≡ false → tells_spent reply ≡ false → AreTwins new its_new
   step_alike request said reply turn its_turn kept also_kept =
-      let step : Step (state_at old.wiki.state budget) request reply its_new.wiki.state =
-      subst (λ (s : State). Step s request reply its_new.wiki.state) twins.state its_turn.0.step in
-      let both = history_alike request said reply turn.0.step step turn.1 its_turn.1 in
+      let step : Step (IsCutOff other.wiki.budget) old.wiki.state request reply its_new.wiki.state =
+      subst (λ (s : State). Step (IsCutOff other.wiki.budget) s request reply its_new.wiki.state) twins.state its_turn.0.step in
+      let refused = refused_alike (IsCutOff old.wiki.budget) (IsCutOff other.wiki.budget) old.wiki.state request said reply new.wiki.state its_new.wiki.state
+      turn.0.step step in
+      let both = carry_alike request said reply refused turn.1 its_turn.1 in
       record {
-        state = step_one old.wiki.state budget request said reply new.wiki.state its_new.wiki.state turn.0.step step kept also_kept;
+        state = step_one (IsCutOff old.wiki.budget) (IsCutOff other.wiki.budget) old.wiki.state said reply new.wiki.state its_new.wiki.state kept also_kept
+            request turn.0.step step;
         past = both.0;
         future = both.1;
       }
@@ -240,12 +169,12 @@ others_of (b ∷ bs) = bs
 
 -- the state in which it was put back
 abbrev putting : State → Bare → State
-putting state before = record state { pages = with_sentences state.pages before.0 before.1 }
+putting state before = record state { stored = with_sentences state.stored before.0 before.1 }
 
-module _ (old : Holding) (budget : ℕ) (other : Holding) (same : other.state ≡ state_at old.state budget) (from onto its_from its_onto : List Former)
+module _ (old other : Holding) (same : other.state ≡ old.state) (from onto its_from its_onto : List Former)
     (same_from : map stood its_from ≡ map stood from) (same_onto : map stood its_onto ≡ map stood onto) (answer : List ℕ → Reply) where
-  articles_alike : other.state.pages.articles ≡ old.state.pages.articles
-  articles_alike = ap (λ (s : State). s.pages.articles) same
+  articles_alike : other.state.stored.articles ≡ old.state.stored.articles
+  articles_alike = ap (λ (s : State). s.stored.articles) same
 
   -- the newest of both, and their articles
   newest_alike : (before its_before : Former) (rest its_rest : List Former) → from ≡ before ∷ rest → its_from ≡ its_before ∷ its_rest
@@ -255,11 +184,11 @@ module _ (old : Holding) (budget : ℕ) (other : Holding) (same : other.state �
       (sym (ap (λ (fs : List Former). newest_of (map stood fs)) its) ∙ ap newest_of same_from ∙ ap (λ (fs : List Former). newest_of (map stood fs)) is)
 
   article_alike : (before its_before : Former) (article its_article : Article) → stood its_before ≡ stood before
-      → article_of old.state.pages.articles before.article ≡ Some article → article_of other.state.pages.articles its_before.article ≡ Some its_article
+      → article_of old.state.stored.articles before.article ≡ Some article → article_of other.state.stored.articles its_before.article ≡ Some its_article
       → its_article ≡ article
   article_alike before its_before article its_article alike there its_there =
       same_Some its_article article
-      (sym its_there ∙ ap (λ (b : Bare). article_of other.state.pages.articles b.0) alike
+      (sym its_there ∙ ap (λ (b : Bare). article_of other.state.stored.articles b.0) alike
       ∙ ap (λ (those : List Article). article_of those before.article) articles_alike ∙ there)
 
   -- nothing is put back in the one, and something in the other
@@ -287,12 +216,12 @@ module _ (old : Holding) (budget : ℕ) (other : Holding) (same : other.state �
   put_alike : (said reply : Reply) (new its_new : Holding) (from_after onto_after its_from_after its_onto_after : List Former)
       → PutsBack old from onto answer said new from_after onto_after
       → PutsBack other its_from its_onto answer reply its_new its_from_after its_onto_after
-      → (its_new.state ≡ state_at new.state budget) × (map stood its_from_after ≡ map stood from_after) × (map stood its_onto_after ≡ map stood onto_after)
+      → (its_new.state ≡ new.state) × (map stood its_from_after ≡ map stood from_after) × (map stood its_onto_after ≡ map stood onto_after)
   put_alike said reply new its_new from_after onto_after its_from_after its_onto_after is its =
       let alike = newest_alike is.before its.before from_after its_from_after is.newest its.newest in
       let article = article_alike is.before its.before is.article its.article alike is.there its.there in (
         ap (λ (w : Holding). w.state) its.after ∙ ap (λ (s : State). putting s (stood its.before)) same
-            ∙ ap (λ (b : Bare). putting (state_at old.state budget) b) alike ∙ sym (ap (λ (w : Holding). state_at w.state budget) is.after),
+            ∙ ap (λ (b : Bare). putting old.state b) alike ∙ sym (ap (λ (w : Holding). w.state) is.after),
         sym (ap (λ (fs : List Former). others_of (map stood fs)) its.newest) ∙ ap others_of same_from
             ∙ ap (λ (fs : List Former). others_of (map stood fs)) is.newest,
         ap (map stood) its.other ∙ ap (λ (b : Bare). (b.0, its.article.sentences) ∷ map stood its_onto) alike
@@ -301,36 +230,33 @@ module _ (old : Holding) (budget : ℕ) (other : Holding) (same : other.state �
       )
 
 -- moves from lists of the same
-move_alike : (old : Holding) (budget : ℕ) (other : Holding) (from onto its_from its_onto : List Former) (answer : List ℕ → Reply) (said reply : Reply)
-    (new its_new : Holding) (from_after onto_after its_from_after its_onto_after : List Former) → other.state ≡ state_at old.state budget
+move_alike : (old other : Holding) (from onto its_from its_onto : List Former) (answer : List ℕ → Reply) (said reply : Reply)
+    (new its_new : Holding) (from_after onto_after its_from_after its_onto_after : List Former) → other.state ≡ old.state
     → map stood its_from ≡ map stood from → map stood its_onto ≡ map stood onto → Moves old from onto answer said new from_after onto_after
     → Moves other its_from its_onto answer reply its_new its_from_after its_onto_after
-    → (its_new.state ≡ state_at new.state budget) × (map stood its_from_after ≡ map stood from_after) × (map stood its_onto_after ≡ map stood onto_after)
-move_alike old budget other from onto its_from its_onto answer said reply new its_new from_after onto_after its_from_after its_onto_after same same_from
+    → (its_new.state ≡ new.state) × (map stood its_from_after ≡ map stood from_after) × (map stood its_onto_after ≡ map stood onto_after)
+move_alike old other from onto its_from its_onto answer said reply new its_new from_after onto_after its_from_after its_onto_after same same_from
     same_onto moves its_moves =
     by (move_outcome old from onto answer said new from_after onto_after moves)
     (move_outcome other its_from its_onto answer reply its_new its_from_after its_onto_after its_moves)
   where
-    back : old.state ≡ state_at other.state old.state.pages.budget
-    back = sym (ap (λ (s : State). state_at s old.state.pages.budget) same)
-
     by : ((refusal : Refusal) × IsStill old from onto refusal new from_after onto_after) ⊎ PutsBack old from onto answer said new from_after onto_after
         → ((refusal : Refusal) × IsStill other its_from its_onto refusal its_new its_from_after its_onto_after)
         ⊎ PutsBack other its_from its_onto answer reply its_new its_from_after its_onto_after
-        → (its_new.state ≡ state_at new.state budget) × (map stood its_from_after ≡ map stood from_after) × (map stood its_onto_after ≡ map stood onto_after)
+        → (its_new.state ≡ new.state) × (map stood its_from_after ≡ map stood from_after) × (map stood its_onto_after ≡ map stood onto_after)
     by (inl (refusal, still)) (inl (its_refusal, its_still)) = (
-      ap (λ (w : Holding). w.state) its_still.1 ∙ same ∙ sym (ap (λ (w : Holding). state_at w.state budget) still.1),
+      ap (λ (w : Holding). w.state) its_still.1 ∙ same ∙ sym (ap (λ (w : Holding). w.state) still.1),
       ap (map stood) its_still.2 ∙ same_from ∙ sym (ap (map stood) still.2),
       ap (map stood) its_still.3 ∙ same_onto ∙ sym (ap (map stood) still.3),
     )
     by (inl (refusal, still)) (inr puts) =
-        absurd (never_done old budget other same from onto its_from its_onto same_from same_onto answer refusal reply its_new its_from_after its_onto_after
+        absurd (never_done old other same from onto its_from its_onto same_from same_onto answer refusal reply its_new its_from_after its_onto_after
         still.0 puts)
     by (inr puts) (inl (refusal, still)) =
-        absurd (never_done other old.state.pages.budget old back its_from its_onto from onto (sym same_from) (sym same_onto) answer refusal said new from_after
+        absurd (never_done other old (sym same) its_from its_onto from onto (sym same_from) (sym same_onto) answer refusal said new from_after
         onto_after still.0 puts)
     by (inr puts) (inr its_puts) =
-        put_alike old budget other same from onto its_from its_onto same_from same_onto answer said reply new its_new from_after onto_after its_from_after
+        put_alike old other same from onto its_from its_onto same_from same_onto answer said reply new its_new from_after onto_after its_from_after
         its_onto_after puts its_puts
 
 -- ---- one turn
@@ -340,16 +266,16 @@ abbrev pub spends : LineRequest → Reply → Bool
 spends request reply = is_spent_in (exchange_of (answered request reply))
 
 -- Where no budget is spent, twins that are asked the same stay twins.
-pub turn_alike : (old : Recalling) (budget : ℕ) (other : Recalling) (request : LineRequest) (said reply : Reply) (new its_new : Recalling)
-    → AreTwins old budget other → KeptTurn old request said new → KeptTurn other request reply its_new → spends request said ≡ false
-    → spends request reply ≡ false → AreTwins new budget its_new
-turn_alike old budget other (lines.Step request) said reply new its_new twins turn its_turn kept also_kept =
-    step_alike old budget other new its_new twins request said reply turn its_turn kept also_kept
-turn_alike old budget other lines.Undo said reply new its_new twins turn its_turn kept also_kept =
-    let all = move_alike old.wiki budget other.wiki old.past old.future other.past other.future replies.Undo said reply new.wiki its_new.wiki new.past
+pub turn_alike : (old other : Recalling) (request : LineRequest) (said reply : Reply) (new its_new : Recalling)
+    → AreTwins old other → KeptTurn old request said new → KeptTurn other request reply its_new → spends request said ≡ false
+    → spends request reply ≡ false → AreTwins new its_new
+turn_alike old other (lines.Step request) said reply new its_new twins turn its_turn kept also_kept =
+    step_alike old other new its_new twins request said reply turn its_turn kept also_kept
+turn_alike old other lines.Undo said reply new its_new twins turn its_turn kept also_kept =
+    let all = move_alike old.wiki other.wiki old.past old.future other.past other.future replies.Undo said reply new.wiki its_new.wiki new.past
     new.future its_new.past its_new.future twins.state twins.past twins.future turn its_turn in
     record { state = all.0; past = all.1; future = all.2 }
-turn_alike old budget other lines.Redo said reply new its_new twins turn its_turn kept also_kept =
-    let all = move_alike old.wiki budget other.wiki old.future old.past other.future other.past replies.Redo said reply new.wiki its_new.wiki new.future
+turn_alike old other lines.Redo said reply new its_new twins turn its_turn kept also_kept =
+    let all = move_alike old.wiki other.wiki old.future old.past other.future other.past replies.Redo said reply new.wiki its_new.wiki new.future
     new.past its_new.future its_new.past twins.state twins.future twins.past turn its_turn in
     record { state = all.0; past = all.2; future = all.1 }

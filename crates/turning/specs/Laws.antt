@@ -12,11 +12,11 @@ use Rattle.wiki_talk.specs.declared.replies.Reply.TheVariants as replies
 use Rattle.wiki_talk.specs.Turns.{Exchange, answered, no_request, Turns}
 use Rattle.articles.specs.declared.sentences.Sentence.{Sentence}
 use Rattle.articles.specs.declared.article.Article.{Article}
-use Rattle.wiki_parts.specs.Knowledge.{Knows}
+use Rattle.plain_wiki.specs.Knowledge.{Knows}
 use Rattle.wiki_core.specs.Holding.{Holding, first_holding, IsKept}
 use Rattle.wiki_core.specs.Stepping.{KeptStep}
 use Rattle.wiki_core.specs.Apart.{heard_by, tokens_in}
-use Rattle.wiki_core.specs.Journaled.{changes_of, GivesUnraised, SpendsNone, FitsLine, StandAlike}
+use Rattle.wiki_core.specs.Journaled.{changes_of, GivesUnraised, SpendsNone, FitsLine}
 use Rattle.wiki_core.specs.Journaled as core
 use Rattle.turning.specs.Turning.{Recalling, without_history, article_changed, KeptTurn}
 
@@ -71,7 +71,7 @@ StandsAgain g =
     → asked_of again ≡ asked_of of_lines ++ map lines.Step (changes_of more)
     → GiveUnraised of_lines more
     → SpendsNone (exchanges_of of_lines more) → SpendsNone (map exchange_of again)
-    → StandAlike last.state.pages its_last.wiki.state.pages
+    → its_last.wiki.state.stored ≡ last.state.stored
 
 -- Each change of a run's requests but for that of the grammar fits a short line, however long the text was that was sent.
 abbrev pub ChangesFitLines : GrammarParts → Type 0
@@ -93,10 +93,10 @@ sentences_under article = (article.word, article.sentences)
 -- Two wikis with the same grammar and words, the same sentences with the same statuses in each article, the same knowledge, and the same
 -- interpretation that is kept of it; revisions and sessions may differ.
 pub record HaveTheSame (one other : Holding) : Type 0 where
-  pub grammar : other.state.pages.grammar ≡ one.state.pages.grammar
-  pub words : other.state.pages.words ≡ one.state.pages.words
-  pub sentences : map sentences_under other.state.pages.articles ≡ map sentences_under one.state.pages.articles
-  pub knowledge : (claims : List Claim) → Knows other.state.pages claims ↔ Knows one.state.pages claims
+  pub grammar : other.state.stored.grammar ≡ one.state.stored.grammar
+  pub words : other.state.stored.words ≡ one.state.stored.words
+  pub sentences : map sentences_under other.state.stored.articles ≡ map sentences_under one.state.stored.articles
+  pub knowledge : (claims : List Claim) → Knows other.state.stored claims ↔ Knows one.state.stored claims
   pub interpretation : other.interpretation ≡ one.interpretation
 
 -- of a wiki that keeps rightly: a done change of an article, and then `undo` where that isn't refused, give what there was

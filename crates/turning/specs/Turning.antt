@@ -1,5 +1,5 @@
 -- The plain wiki with a history: one turn for each line of the input. Changes of sentences can be taken back, and done again.
-use Rattle.std.specs.Prelude.{◌≡◌, ℕ, ◌<◌, ◌⊎◌, List, [], ◌∷◌, take, Option, Some, None, option_map, MatchBool, MatchOption}
+use Rattle.std.specs.Prelude.{◌≡◌, ℕ, ◌<◌, ◌⊎◌, Bool, true, false, if◌then◌else◌, List, [], ◌∷◌, take, Option, Some, None, option_map, MatchBool, MatchOption}
 use Rattle.wiki_base.specs.declared.numbers.WordId.{WordId}
 use Rattle.lexicon.specs.declared.words.TheConstants.{LAST_NUMBER}
 use Rattle.lexicon.specs.Words.{canonical_form_of}
@@ -11,19 +11,21 @@ use Rattle.wiki_talk.specs.declared.replies.Reply.{Reply}
 use Rattle.wiki_talk.specs.declared.replies.Reply.TheVariants as replies
 use Rattle.wiki_talk.specs.declared.requests.Request.{Request}
 use Rattle.wiki_talk.specs.declared.requests.Request.TheVariants as requests
+use Rattle.wiki_talk.specs.declared.requests.ArticleRequest.{ArticleRequest}
+use Rattle.wiki_talk.specs.declared.requests.ArticleRequest.TheVariants as of_article
+use Rattle.wiki_talk.specs.declared.requests.SessionRequest.TheVariants as of_session
 use Rattle.wiki_talk.specs.declared.requests.LineRequest.{LineRequest}
 use Rattle.wiki_talk.specs.declared.requests.LineRequest.TheVariants as lines
 use Rattle.articles.specs.declared.sentences.Sentence.{Sentence}
 use Rattle.articles.specs.declared.article.Article.{Article}
 use Rattle.articles.specs.Articles.{article_of}
 use Rattle.history.specs.declared.history.TheConstants.{MOST_ENTRIES}
-use Rattle.wiki_parts.specs.Places.{word_named}
-use Rattle.wiki_parts.specs.Words.{full_at}
+use Rattle.plain_wiki.specs.Places.{word_named, session_numbered}
+use Rattle.plain_wiki.specs.Words.{full_at}
 use Rattle.wiki_store.specs.PuttingBack.{with_sentences}
-use Rattle.wiki_core.specs.Causes.{session_numbered}
 use Rattle.wiki_core.specs.Holding.{Holding, IsKept}
 use Rattle.wiki_core.specs.Keeping.{changes_words}
-use Rattle.wiki_core.specs.State.{State}
+use Rattle.plain_wiki.specs.State.{State}
 use Rattle.wiki_core.specs.Stepping.{KeptStep}
 
 -- what stood before a change: the sentences of the word's article, and the interpretation that was kept
@@ -49,18 +51,21 @@ standing wiki word sentences = record { article = word; sentences = sentences; i
 
 -- what stands of the word's article
 abbrev pub standing_of : Holding → WordId → Option Former
-standing_of wiki word = option_map (λ article. standing wiki word article.sentences) (article_of wiki.state.pages.articles word)
+standing_of wiki word = option_map (λ article. standing wiki word article.sentences) (article_of wiki.state.stored.articles word)
 
 -- ---- what a request on the wiki leaves of the history
 
+-- the request changes the sentences of its article
+abbrev pub changes_article : ArticleRequest → Bool
+changes_article of_article.Read = false
+changes_article (of_article.Axioms place) = false
+changes_article of_article.Open = false
+changes_article asked = true
+
 -- the word of the article that a request changes, if it is done and changes one
 abbrev pub article_changed : State → Request → Option WordId
-article_changed state (requests.Add form place text) = word_named state.pages form
-article_changed state (requests.Edit form place text) = word_named state.pages form
-article_changed state (requests.Remove form place) = word_named state.pages form
-article_changed state (requests.Retract form place) = word_named state.pages form
-article_changed state (requests.Reassert form place) = word_named state.pages form
-article_changed state (requests.Commit session) = option_map (λ found. found.article) (session_numbered state session)
+article_changed state (requests.OnArticle form asked) = if changes_article asked then word_named state.stored form else None
+article_changed state (requests.OnSession number of_session.Commit) = option_map (λ session. session.article) (session_numbered state number)
 article_changed state request = None
 
 -- what stood before a change of the word's article can be put back, the newest 100 of such changes; and none can be done again
@@ -89,8 +94,8 @@ CarriesHistory old request reply new =
 
 -- the wiki in which it was put back what stood: the article's sentences, at its next revision, and the interpretation that was kept
 abbrev pub put_back : Holding → Former → Holding
-put_back wiki before = record {
-  state = record wiki.state { pages = with_sentences wiki.state.pages before.article before.sentences };
+put_back wiki before = record wiki {
+  state = record wiki.state { stored = with_sentences wiki.state.stored before.article before.sentences };
   interpretation = before.interpretation;
 }
 
@@ -100,10 +105,10 @@ pub record PutsBack (old : Holding) (from onto : List Former) (answer : List ℕ
   pub before : Former
   pub newest : from ≡ before ∷ from_after
   pub article : Article
-  pub there : article_of old.state.pages.articles before.article ≡ Some article
+  pub there : article_of old.state.stored.articles before.article ≡ Some article
   pub rises : article.revision.0 < LAST_NUMBER
   pub form : List ℕ
-  pub spelled : canonical_form_of old.state.pages.words.live before.article ≡ Some form
+  pub spelled : canonical_form_of old.state.stored.words.live before.article ≡ Some form
   pub told : reply ≡ answer form
   pub after : new ≡ put_back old before
   pub other : onto_after ≡ standing old before.article article.sentences ∷ onto
@@ -120,7 +125,7 @@ pub record IsAtLastRevision (old : Holding) (from : List Former) (refusal : Refu
   pub others : List Former
   pub newest : from ≡ before ∷ others
   pub article : Article
-  pub there : article_of old.state.pages.articles before.article ≡ Some article
+  pub there : article_of old.state.stored.articles before.article ≡ Some article
   pub last : article.revision.0 ≡ LAST_NUMBER
   pub told : refusal ≡ full_at limits.Numbers
 

@@ -2,41 +2,42 @@
 ghost use Rattle.std.specs.Prelude.{◌≡◌, IsSome, IfSome};
 ghost use Rattle.articles.specs.Articles.{article_of};
 ghost use Rattle.wiki_core.specs.Keeping.{changes_words};
-ghost use Rattle.turning.specs.Turning.{article_changed};
+ghost use Rattle.turning.specs.Turning.{article_changed, changes_article};
 ghost use Rattle.turning.specs.Laws.{is_refused};
 
 use wiki_base::{SessionId, WordId};
 use wiki_core::Wiki;
-use wiki_talk::{Reply, Request};
+use wiki_talk::{ArticleRequest, Reply, Request, SessionRequest, WikiRequest, WordRequest};
 
 // The word of the article that a request changes, if it is done and changes one.
 pub(crate) fn article_changed(wiki: &Wiki, request: &Request) -> Option<WordId>
     ensures changed { result ≡ article_changed wiki.now.state request.now }
-    ensures there { IfSome result (λ word. IsSome (article_of wiki.now.state.pages.articles word)) }
+    ensures there { IfSome result (λ word. IsSome (article_of wiki.now.state.stored.articles word)) }
 {
     wiki.is_kept();
     match request {
-        Request::Add { article, .. }
-        | Request::Edit { article, .. }
-        | Request::Remove { article, .. }
-        | Request::Retract { article, .. }
-        | Request::Reassert { article, .. } => wiki.lexicon().find(article.as_str()),
-        Request::Commit { session } => wiki.article_of(SessionId(*session)),
-        Request::Word { .. }
-        | Request::Find { .. }
-        | Request::Words
-        | Request::Parse { .. }
-        | Request::Reword { .. }
-        | Request::Unword { .. }
-        | Request::Grammar { .. }
-        | Request::Read { .. }
-        | Request::Axioms { .. }
-        | Request::Begin { .. }
-        | Request::Put { .. }
-        | Request::Back { .. }
-        | Request::Menu { .. }
-        | Request::Refresh { .. }
-        | Request::Drop { .. } => None,
+        Request::OnArticle { article, asked } if changes_article(asked) => {
+            wiki.lexicon().find(article.as_str())
+        }
+        Request::OnSession {
+            session,
+            asked: SessionRequest::Commit,
+        } => wiki.article_of(SessionId(*session)),
+        _ => None,
+    }
+}
+
+// Whether a request on an article changes its sentences, if it is done.
+fn changes_article(asked: &ArticleRequest) -> bool
+    ensures { result ≡ changes_article asked.now }
+{
+    match asked {
+        ArticleRequest::Read | ArticleRequest::Axioms { .. } | ArticleRequest::Open => false,
+        ArticleRequest::Add { .. }
+        | ArticleRequest::Edit { .. }
+        | ArticleRequest::Remove { .. }
+        | ArticleRequest::Retract { .. }
+        | ArticleRequest::Reassert { .. } => true,
     }
 }
 
@@ -46,10 +47,16 @@ pub(crate) fn changes_words(request: &Request) -> bool
 {
     matches!(
         request,
-        Request::Word { .. }
-            | Request::Reword { .. }
-            | Request::Unword { .. }
-            | Request::Grammar { .. }
+        Request::OnWiki(WikiRequest::Word { .. })
+            | Request::OnWord {
+                asked: WordRequest::Reword { .. },
+                ..
+            }
+            | Request::OnWord {
+                asked: WordRequest::Unword,
+                ..
+            }
+            | Request::OnWiki(WikiRequest::Grammar { .. })
     )
 }
 

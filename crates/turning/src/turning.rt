@@ -4,10 +4,10 @@ ghost use Rattle.lexicon.specs.declared.words.TheConstants.{LAST_NUMBER};
 ghost use Rattle.lexicon.specs.Words.{canonical_form_of};
 ghost use Rattle.articles.specs.Articles.{article_of, CanChange};
 ghost use Rattle.wiki_store.specs.PuttingBack.{CanBePut, IsOfArticle};
-ghost use Rattle.wiki_core.specs.Holding.{pages_held, IsKept};
+ghost use Rattle.wiki_core.specs.Holding.{store_held, IsKept};
 ghost use Rattle.wiki_core.specs.Stepping.{KeptStep};
 ghost use Rattle.wiki_core.specs.PuttingBack.{put_back};
-ghost use Rattle.wiki_parts.specs.Words.{full_at};
+ghost use Rattle.plain_wiki.specs.Words.{full_at};
 ghost use Rattle.wiki_core.specs.Keeping.{changes_words};
 ghost use Rattle.turning.specs.Turning.{KeptTurn, CarriesHistory, article_changed};
 ghost use Rattle.turning.specs.Recalling.{recalling, FitsHistory};
@@ -28,9 +28,9 @@ pub fn turn(
     history: &mut History,
     request: &LineRequest,
 ) -> Result<Reply, Memory>
-    requires { FitsHistory wiki.old.state.pages history.old }
+    requires { FitsHistory wiki.old.state.stored history.old }
     ensures turn { IfOk result (λ reply. KeptTurn (recalling wiki.old history.old) request.now reply (recalling wiki.new history.new)) }
-    ensures fits { FitsHistory wiki.new.state.pages history.new }
+    ensures fits { FitsHistory wiki.new.state.stored history.new }
     ensures wiki { OnErr result (wiki.new ≡ wiki.old) }
     ensures history { OnErr result (history.new ≡ history.old) }
 {
@@ -43,10 +43,10 @@ pub fn turn(
 
 // Does a request, and notes what stood before a change.
 fn step(wiki: &mut Wiki, history: &mut History, request: &Request) -> Result<Reply, Memory>
-    requires { FitsHistory wiki.old.state.pages history.old }
+    requires { FitsHistory wiki.old.state.stored history.old }
     ensures step { IfOk result (λ reply. KeptStep wiki.old request.now reply wiki.new) }
     ensures history { IfOk result (λ reply. CarriesHistory (recalling wiki.old history.old) request.now reply (recalling wiki.new history.new)) }
-    ensures fits { FitsHistory wiki.new.state.pages history.new }
+    ensures fits { FitsHistory wiki.new.state.stored history.new }
     ensures wiki_stays { OnErr result (wiki.new ≡ wiki.old) }
     ensures history_stays { OnErr result (history.new ≡ history.old) }
 {
@@ -62,10 +62,10 @@ fn step(wiki: &mut Wiki, history: &mut History, request: &Request) -> Result<Rep
 // Does a request that changes words. Where it is done, no change can be taken back.
 fn step_words(wiki: &mut Wiki, history: &mut History, request: &Request) -> Result<Reply, Memory>
     requires words { changes_words request.now ≡ true }
-    requires fits { FitsHistory wiki.old.state.pages history.old }
+    requires fits { FitsHistory wiki.old.state.stored history.old }
     ensures step { IfOk result (λ reply. KeptStep wiki.old request.now reply wiki.new) }
     ensures history { IfOk result (λ reply. CarriesHistory (recalling wiki.old history.old) request.now reply (recalling wiki.new history.new)) }
-    ensures fits { FitsHistory wiki.new.state.pages history.new }
+    ensures fits { FitsHistory wiki.new.state.stored history.new }
     ensures wiki_stays { OnErr result (wiki.new ≡ wiki.old) }
     ensures history_stays { OnErr result (history.new ≡ history.old) }
 {
@@ -85,11 +85,11 @@ fn step_article(
 ) -> Result<Reply, Memory>
     requires words { changes_words request.now ≡ false }
     requires changed { article_changed wiki.old.state request.now ≡ Some word }
-    requires there { IsSome (article_of wiki.old.state.pages.articles word) }
-    requires fits { FitsHistory wiki.old.state.pages history.old }
+    requires there { IsSome (article_of wiki.old.state.stored.articles word) }
+    requires fits { FitsHistory wiki.old.state.stored history.old }
     ensures step { IfOk result (λ reply. KeptStep wiki.old request.now reply wiki.new) }
     ensures history { IfOk result (λ reply. CarriesHistory (recalling wiki.old history.old) request.now reply (recalling wiki.new history.new)) }
-    ensures fits { FitsHistory wiki.new.state.pages history.new }
+    ensures fits { FitsHistory wiki.new.state.stored history.new }
     ensures wiki_stays { OnErr result (wiki.new ≡ wiki.old) }
     ensures history_stays { OnErr result (history.new ≡ history.old) }
 {
@@ -104,8 +104,8 @@ fn step_article(
 
 // What stands of an article that is there.
 fn standing(wiki: &Wiki, word: WordId) -> Result<Kept, Memory>
-    requires { IsSome (article_of wiki.now.state.pages.articles word) }
-    ensures { IfOk result (IsOfArticle (pages_held wiki.now) word) }
+    requires { IsSome (article_of wiki.now.state.stored.articles word) }
+    ensures { IfOk result (IsOfArticle (store_held wiki.now) word) }
 {
     match wiki.keep(word)? {
         Some(kept) => Ok(kept),
@@ -115,9 +115,9 @@ fn standing(wiki: &Wiki, word: WordId) -> Result<Kept, Memory>
 
 // Takes the newest change back.
 fn undo(wiki: &mut Wiki, history: &mut History) -> Result<Reply, Memory>
-    requires { FitsHistory wiki.old.state.pages history.old }
+    requires { FitsHistory wiki.old.state.stored history.old }
     ensures turn { IfOk result (λ reply. KeptTurn (recalling wiki.old history.old) LineRequest.Undo reply (recalling wiki.new history.new)) }
-    ensures fits { FitsHistory wiki.new.state.pages history.new }
+    ensures fits { FitsHistory wiki.new.state.stored history.new }
     ensures wiki { OnErr result (wiki.new ≡ wiki.old) }
     ensures history { OnErr result (history.new ≡ history.old) }
 {
@@ -143,9 +143,9 @@ fn undo(wiki: &mut Wiki, history: &mut History) -> Result<Reply, Memory>
 
 // Does the newest change that was taken back again.
 fn redo(wiki: &mut Wiki, history: &mut History) -> Result<Reply, Memory>
-    requires { FitsHistory wiki.old.state.pages history.old }
+    requires { FitsHistory wiki.old.state.stored history.old }
     ensures turn { IfOk result (λ reply. KeptTurn (recalling wiki.old history.old) LineRequest.Redo reply (recalling wiki.new history.new)) }
-    ensures fits { FitsHistory wiki.new.state.pages history.new }
+    ensures fits { FitsHistory wiki.new.state.stored history.new }
     ensures wiki { OnErr result (wiki.new ≡ wiki.old) }
     ensures history { OnErr result (history.new ≡ history.old) }
 {
@@ -171,9 +171,9 @@ fn redo(wiki: &mut Wiki, history: &mut History) -> Result<Reply, Memory>
 
 // Whether an article that is there was changed as often as may be.
 fn is_at_last_revision(wiki: &Wiki, word: WordId) -> bool
-    requires { IsSome (article_of wiki.now.state.pages.articles word) }
-    ensures yes { result ≡ true → IsSomeAnd (article_of wiki.now.state.pages.articles word) (λ article. article.revision.0 ≡ LAST_NUMBER) }
-    ensures no { result ≡ false → CanChange wiki.now.state.pages.articles word }
+    requires { IsSome (article_of wiki.now.state.stored.articles word) }
+    ensures yes { result ≡ true → IsSomeAnd (article_of wiki.now.state.stored.articles word) (λ article. article.revision.0 ≡ LAST_NUMBER) }
+    ensures no { result ≡ false → CanChange wiki.now.state.stored.articles word }
 {
     match wiki.revision(word) {
         Some(revision) => revision.0 == LAST_NUMBER,

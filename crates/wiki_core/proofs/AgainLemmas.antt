@@ -1,47 +1,153 @@
 -- A change is made again by the request that tells it.
-use Rattle.std.proofs.Common.{◌≡◌, ℕ, ◌<◌, ◌≤◌, Bool, true, false, cond, List, [], ◌∷◌, length, find, ◌⊎◌, inl, inr, Option, Some, None, refl, sym, ap, subst, ◌∙◌, arith, unwrap_or, option_map}
+use Rattle.std.proofs.Common.{◌≡◌, ℕ, ◌<◌, ◌≤◌, Bool, true, false, cond, List, [], ◌∷◌, length, find, ◌⊎◌, inl, inr, Option, Some, None, refl, sym, ap, subst, ◌∙◌, arith}
 use Rattle.std.specs.Option.{option_and_then, option_map_or}
-use Rattle.std.specs.List.{slice_get}
 use Rattle.std.proofs.lemmas.Option.{none-some, same_Some}
 use Rattle.wiki_base.specs.declared.numbers.WordId.{WordId}
 use Rattle.wiki_base.specs.declared.numbers.SessionId.{SessionId}
-use Rattle.lexicon.specs.declared.kinds.Forms.{Forms}
-use Rattle.lexicon.specs.Kinds.{canonical_place}
-use Rattle.lexicon.specs.Words.{forms_of, canonical_form_of}
+use Rattle.lexicon.specs.declared.words.Word.{Word}
 use Rattle.derivation_trees.specs.Cutting.{shown}
 use Rattle.derivation_trees.specs.Sentences.{IsSentence}
+use Rattle.derivations.proofs.GrowLemmas.{Each}
 use Rattle.wiki_talk.specs.declared.statuses.Status.{Status}
 use Rattle.wiki_talk.specs.declared.statuses.Status.TheVariants.{Asserted, Retracted}
 use Rattle.wiki_talk.specs.declared.refusals.Refusal.{Refusal}
+use Rattle.wiki_talk.specs.declared.refusals.Refusal.TheVariants.{NoWord, NoSession}
 use Rattle.wiki_talk.specs.declared.replies.Reply.{Reply}
 use Rattle.wiki_talk.specs.declared.replies.Reply.TheVariants as replies
 use Rattle.wiki_talk.specs.declared.requests.Request.{Request}
 use Rattle.wiki_talk.specs.declared.requests.Request.TheVariants as requests
+use Rattle.wiki_talk.specs.declared.requests.WikiRequest.{WikiRequest}
+use Rattle.wiki_talk.specs.declared.requests.WikiRequest.TheVariants as of_wiki
+use Rattle.wiki_talk.specs.declared.requests.WordRequest.{WordRequest}
+use Rattle.wiki_talk.specs.declared.requests.WordRequest.TheVariants as of_word
+use Rattle.wiki_talk.specs.declared.requests.ArticleRequest.{ArticleRequest}
+use Rattle.wiki_talk.specs.declared.requests.ArticleRequest.TheVariants as of_article
+use Rattle.wiki_talk.specs.declared.requests.SessionRequest.{SessionRequest}
+use Rattle.wiki_talk.specs.declared.requests.SessionRequest.TheVariants as of_session
 use Rattle.wiki_talk.specs.declared.limits.Limit.TheVariants as limits
 use Rattle.wiki_talk.specs.Limits.{amount_of}
+use Rattle.articles.specs.declared.sentences.Sentence.{Sentence}
 use Rattle.articles.specs.declared.article.Article.{Article}
 use Rattle.articles.specs.Articles.{article_of}
-use Rattle.sessions.specs.Sessions.{PlainSession, session_of, has_number}
-use Rattle.wiki_parts.specs.State as parts
+use Rattle.plain_wiki.specs.Sessions.{PlainSession, session_of, has_number}
+use Rattle.plain_wiki.specs.State.{Stored, State}
+use Rattle.plain_wiki.specs.Words.{full_at}
+use Rattle.plain_wiki.specs.Places.{word_with, word_named, article_named, session_numbered}
+use Rattle.plain_wiki.specs.Parsing.{tokens_of, IsNoSentence}
+use Rattle.plain_wiki.specs.Knowledge.{Spending, GetStatus}
+use Rattle.plain_wiki.specs.Causes.{FirstOf, NoneOf, of_named, when, has_no_place, is_past_end, has_no_room, is_at_last_revision, on_its_article, is_stale, is_unfinished}
+use Rattle.plain_wiki.specs.Against.{Causes, against_article, against_session, causes_against, IsFree}
+use Rattle.plain_wiki.specs.Doing.{with_inserted, with_replaced, with_appended, end_of, place_for, CommitsSession}
+use Rattle.plain_wiki.specs.Step.{ChangesStored, ChangesWords, EndsOnArticle, DoesOnWiki, DoesOnWord, DoesOnArticle, DoesOnSession, Does, Step}
 use Rattle.wiki_parts.specs.Faults.{IsAbsent}
-use Rattle.wiki_parts.specs.Places.{word_named, article_named}
-use Rattle.wiki_parts.specs.Parsing.{tokens_of, IsNoSentence}
-use Rattle.wiki_parts.specs.Knowledge.{GetStatus}
-use Rattle.wiki_parts.specs.Refusing.{FirstOf, NamesNoWord, HasNoSentenceAt, IsPastEnd, IsFullOfSentences, HasTooManyTokens, IsAtLastRevision, HasNoDerivation}
 use Rattle.wiki_parts.proofs.FirstLemmas.{none_stands, nothing_stands}
-use Rattle.wiki_store.specs.Appending.{end_of, with_appended}
-use Rattle.wiki_store.specs.Step as store
-use Rattle.wiki_store.specs.Step.{asks_store, AddsSentence, EditsSentence, place_for, with_inserted, with_replaced, sentence_with}
-use Rattle.derivations.proofs.GrowLemmas.{Each}
-use Rattle.wiki_core.specs.State.{State}
-use Rattle.wiki_core.specs.Causes.{NamesNoSession, IsAtLastChange, IsStale, IsUnfinished}
-use Rattle.wiki_core.specs.Step.{Step, StepsSession, IsFree, CommitsSession}
-use Rattle.wiki_core.specs.Journaled.{changes_by, tells_spent}
+use Rattle.wiki_core.specs.Journaled.{own_change, changes_by, tells_spent}
+use Rattle.wiki_core.proofs.NamedLemmas.{some_and, and_so, some_is, free_named, word_is}
 use Rattle.wiki_core.proofs.ReadableLemmas.{canonical_owner}
 use Rattle.wiki_core.proofs.ReadyLemmas.{AreReady, shown_again}
-use Rattle.wiki_core.proofs.OneStepLemmas as one
-use Rattle.wiki_core.proofs.OneStepLemmas.{first_alike}
-use Rattle.wiki_core.proofs.WholeStepLemmas as whole
+use Rattle.wiki_core.proofs.StepLemmas.{IsRefused, IsDone, outcome, does_step}
+
+-- ---- absent causes
+
+pub free_head : (a : Refusal → Type 0) (causes : List (Refusal → Type 0)) → NoneOf (a ∷ causes) → IsAbsent a
+free_head a causes free refusal here = free refusal (inl here)
+
+pub free_rest : (a : Refusal → Type 0) (causes : List (Refusal → Type 0)) → NoneOf (a ∷ causes) → NoneOf causes
+free_rest a causes free refusal later = free refusal (inr (λ other h. free other (inl h), later))
+
+-- the second or the third of the causes
+pub free_second : (a b : Refusal → Type 0) (causes : List (Refusal → Type 0)) → NoneOf (a ∷ b ∷ causes) → IsAbsent b
+free_second a b causes free = free_head b causes (free_rest a (b ∷ causes) free)
+
+pub free_third : (a b c : Refusal → Type 0) (causes : List (Refusal → Type 0)) → NoneOf (a ∷ b ∷ c ∷ causes) → IsAbsent c
+free_third a b c causes free = free_second b c causes (free_rest a (b ∷ c ∷ causes) free)
+
+-- where nothing stands against a request on what is named, nothing stands against what it is
+pub free_of_it : {T : Type 0} (o : Option T) (unknown : Refusal) (causes : T → List (Refusal → Type 0)) (t : T) → o ≡ Some t
+    → NoneOf (of_named o unknown causes) → NoneOf (causes t)
+free_of_it {T} o unknown causes t named free = subst (λ (p : Option T). NoneOf (of_named p unknown causes)) named free
+
+-- ---- what is stored alone
+
+-- what is stored, as a wiki without sessions
+abbrev pub alone : Stored → State
+alone stored = record { stored = stored; sessions = []; last = 0 }
+
+module _ (old : State) where
+  -- what stands against a change stands against it without sessions
+  causes_alone : (change : Request) → own_change change ≡ change ∷ [] → causes_against (alone old.stored) change ≡ causes_against old change
+  causes_alone (requests.OnArticle form of_article.Open) is = absurd (cc)
+  causes_alone (requests.OnSession number asked) is = absurd (cc)
+  causes_alone (requests.OnWiki asked) is = refl
+  causes_alone (requests.OnWord form asked) is = refl
+  causes_alone (requests.OnArticle form asked) is = refl
+
+module _ (IsSpent : Spending) (old : State) (reply : Reply) (new : State) where
+  same_alone : new ≡ old → alone new.stored ≡ alone old.stored
+  same_alone same = ap (λ (s : State). alone s.stored) same
+
+  stored_alone : (changes : Stored → Reply → Stored → Type 0) → ChangesStored changes old reply new
+      → ChangesStored changes (alone old.stored) reply (alone new.stored)
+  stored_alone changes x = record { stored = x.stored; sessions = refl; last = refl }
+
+  words_alone : (changes : Stored → Reply → Stored → Type 0) → ChangesWords changes old reply new
+      → ChangesWords changes (alone old.stored) reply (alone new.stored)
+  words_alone changes x = record { stored = x.stored; sessions = tt; last = refl }
+
+  end_alone : (word : WordId) (changes : Stored → Reply → Stored → Type 0) → EndsOnArticle word changes old reply new
+      → EndsOnArticle word changes (alone old.stored) reply (alone new.stored)
+  end_alone word changes x = record { stored = x.stored; rebased = []; rebases = tt; sessions = refl; last = refl }
+
+  wiki_alone : (asked : WikiRequest) → DoesOnWiki asked old reply new → DoesOnWiki asked (alone old.stored) reply (alone new.stored)
+  wiki_alone (of_wiki.Word kind texts) x = words_alone _ x
+  wiki_alone of_wiki.Words x = (x.0, same_alone x.1)
+  wiki_alone (of_wiki.Parse text) x = (x.0, same_alone x.1)
+  wiki_alone (of_wiki.Grammar text) x = words_alone _ x
+
+  word_alone : (asked : WordRequest) (word : Word) → DoesOnWord asked word old reply new → DoesOnWord asked word (alone old.stored) reply (alone new.stored)
+  word_alone of_word.Find word x = (x.0, same_alone x.1)
+  word_alone (of_word.Reword texts) word x = words_alone _ x
+  word_alone of_word.Unword word x = end_alone word.id _ x
+
+  article_alone : (asked : ArticleRequest) (form : List ℕ) → own_change (requests.OnArticle form asked) ≡ requests.OnArticle form asked ∷ []
+      → (article : Article) → DoesOnArticle IsSpent asked article old reply new
+      → DoesOnArticle IsSpent asked article (alone old.stored) reply (alone new.stored)
+  article_alone of_article.Read form is article x = (x.0, same_alone x.1)
+  article_alone (of_article.Add given text) form is article x = stored_alone _ x
+  article_alone (of_article.Edit place text) form is article x = stored_alone _ x
+  article_alone (of_article.Remove place) form is article x = stored_alone _ x
+  article_alone (of_article.Retract place) form is article x = stored_alone _ x
+  article_alone (of_article.Reassert place) form is article x = stored_alone _ x
+  article_alone (of_article.Axioms place) form is article x = (x.0, same_alone x.1)
+  article_alone of_article.Open form is article x = absurd (cc)
+
+  does_alone : (change : Request) → own_change change ≡ change ∷ [] → Does IsSpent old change reply new
+      → Does IsSpent (alone old.stored) change reply (alone new.stored)
+  does_alone (requests.OnWiki asked) is x = wiki_alone asked x
+  does_alone (requests.OnWord form asked) is x =
+      and_so (word_with old.stored form) (λ word. DoesOnWord asked word old reply new)
+      (λ word. DoesOnWord asked word (alone old.stored) reply (alone new.stored)) (word_alone asked) x
+  does_alone (requests.OnArticle form asked) is x =
+      and_so (article_named old.stored form) (λ article. DoesOnArticle IsSpent asked article old reply new)
+      (λ article. DoesOnArticle IsSpent asked article (alone old.stored) reply (alone new.stored)) (article_alone asked form is) x
+  does_alone (requests.OnSession number asked) is x = absurd (cc)
+
+  -- a step that is a change is one of what is stored alone
+  pub step_alone : (change : Request) → own_change change ≡ change ∷ [] → Step IsSpent old change reply new
+      → Step IsSpent (alone old.stored) change reply (alone new.stored)
+  step_alone change is step = by (outcome IsSpent old change reply new step)
+    where
+      by : IsRefused old change reply new ⊎ IsDone IsSpent old change reply new → Step IsSpent (alone old.stored) change reply (alone new.stored)
+      by (inl refused) =
+          subst (λ (r : Reply). Step IsSpent (alone old.stored) change r (alone new.stored)) (sym refused.1) (
+            subst (λ (causes : Causes). FirstOf causes refused.0) (sym (causes_alone old change is)) refused.2,
+            ap (λ (s : State). alone s.stored) refused.3,
+          )
+      by (inr done) =
+          does_step IsSpent (alone old.stored) change reply (alone new.stored)
+          (subst NoneOf (sym (causes_alone old change is)) done.0) (does_alone change is done.1)
+
+-- ---- changes
 
 -- what is replied to the request that makes a change again
 abbrev pub reply_again : Reply → Reply
@@ -52,213 +158,16 @@ pub spent_again : (reply : Reply) → tells_spent (reply_again reply) ≡ tells_
 spent_again (replies.Commit article status text) = refl
 spent_again reply = refl
 
--- A step has no change and leaves words and sentences, or it has one, which leads to the same words and sentences, with the same reply.
-abbrev pub IsMade : parts.State → Request → Reply → parts.State → Type 0
-IsMade old request reply new =
+-- A step has no change and leaves what is stored, or it has one, which leads to the same, with the same reply, without sessions too.
+abbrev pub IsMade : Spending → Stored → Request → Reply → Stored → Type 0
+IsMade IsSpent old request reply new =
     ((changes_by request reply ≡ []) × (new ≡ old))
-    ⊎ ((change : Request) × (changes_by request reply ≡ change ∷ []) × (asks_store change ≡ true) × store.Step old change (reply_again reply) new)
+    ⊎ ((change : Request) × (changes_by request reply ≡ change ∷ []) × (own_change change ≡ change ∷ [])
+    × Step IsSpent (alone old) change (reply_again reply) (alone new))
 
 -- the sessions have at most 40 tokens
 abbrev pub AreShortSessions : List PlainSession → Type 0
 AreShortSessions sessions = Each (λ session. length session.tokens ≤ 40) sessions
-
--- ---- absent causes
-
-pub free_head : (a : Refusal → Type 0) (causes : List (Refusal → Type 0)) → IsAbsent (FirstOf (a ∷ causes)) → IsAbsent a
-free_head a causes free refusal here = free refusal (inl here)
-
-pub free_rest : (a : Refusal → Type 0) (causes : List (Refusal → Type 0)) → IsAbsent (FirstOf (a ∷ causes)) → IsAbsent (FirstOf causes)
-free_rest a causes free refusal later = free refusal (inr (λ other h. free other (inl h), later))
-
--- the third or the fourth of the causes
-pub free_third : (a b c : Refusal → Type 0) (causes : List (Refusal → Type 0)) → IsAbsent (FirstOf (a ∷ b ∷ c ∷ causes)) → IsAbsent c
-free_third a b c causes free = free_head c causes (free_rest b (c ∷ causes) (free_rest a (b ∷ c ∷ causes) free))
-
-pub free_fourth : (a b c d : Refusal → Type 0) (causes : List (Refusal → Type 0)) → IsAbsent (FirstOf (a ∷ b ∷ c ∷ d ∷ causes)) → IsAbsent d
-free_fourth a b c d causes free = free_third b c d causes (free_rest a (b ∷ c ∷ d ∷ causes) free)
-
-none_of_six : (a b c d e f : Refusal → Type 0) → IsAbsent a → IsAbsent b → IsAbsent c → IsAbsent d → IsAbsent e → IsAbsent f
-    → IsAbsent (FirstOf (a ∷ b ∷ c ∷ d ∷ e ∷ f ∷ []))
-none_of_six a b c d e f no_a no_b no_c no_d no_e no_f =
-    none_stands a (b ∷ c ∷ d ∷ e ∷ f ∷ []) no_a
-    (none_stands b (c ∷ d ∷ e ∷ f ∷ []) no_b
-    (none_stands c (d ∷ e ∷ f ∷ []) no_c (none_stands d (e ∷ f ∷ []) no_d (none_stands e (f ∷ []) no_e (none_stands f [] no_f nothing_stands)))))
-
--- ---- requests that tell themselves
-
--- a request that was refused
-refused_made : (old : parts.State) (request : Request) (reply : Reply) (new : parts.State) (refusal : Refusal) → reply ≡ replies.Refused refusal → new ≡ old
-    → IsMade old request reply new
-refused_made old request reply new refusal is same = inl (ap (changes_by request) is, same)
-
--- a request that changes nothing
-nothing_made : (old : parts.State) (request : Request) (reply fixed : Reply) (new : parts.State) → reply ≡ fixed → changes_by request fixed ≡ [] → new ≡ old
-    → IsMade old request reply new
-nothing_made old request reply fixed new is none same = inl (ap (changes_by request) is ∙ none, same)
-
--- a request that is a change as it stands
-own_made : (old : parts.State) (request : Request) (reply fixed : Reply) (new : parts.State) → reply ≡ fixed → changes_by request fixed ≡ request ∷ []
-    → reply_again fixed ≡ fixed → asks_store request ≡ true → store.Step old request reply new → IsMade old request reply new
-own_made old request reply fixed new is itself again asks step =
-    inr (
-      request,
-      ap (changes_by request) is ∙ itself,
-      asks,
-      subst (λ (r : Reply). store.Step old request r new) (is ∙ sym again ∙ sym (ap reply_again is)) step,
-    )
-
--- ---- sentences by what shows them
-
-module _ (pages : parts.State) (text given_text : List ℕ) (same : tokens_of pages text ≡ tokens_of pages given_text) where
-  too_many_alike : (refusal : Refusal) → HasTooManyTokens pages text refusal → HasTooManyTokens pages given_text refusal
-  too_many_alike refusal h =
-      record { many = subst (λ (ts : List (List ℕ)). amount_of limits.Tokens < length ts) same h.many; told = h.told }
-
-  no_derivation_alike : (refusal : Refusal) → HasNoDerivation pages text refusal → HasNoDerivation pages given_text refusal
-  no_derivation_alike refusal h = subst (λ (ts : List (List ℕ)). IsNoSentence pages.grammar pages.words ts refusal) same h
-
--- what may stand against a sentence that is added, and against one that is put in place of another
-abbrev pub add_causes : parts.State → List ℕ → Option ℕ → List ℕ → List (Refusal → Type 0)
-add_causes pages article given text = NamesNoWord pages article ∷ IsPastEnd pages article given ∷ IsFullOfSentences pages ∷ HasTooManyTokens pages text
-    ∷ IsAtLastRevision pages article ∷ HasNoDerivation pages text ∷ []
-
-abbrev pub edit_causes : parts.State → List ℕ → ℕ → List ℕ → List (Refusal → Type 0)
-edit_causes pages article place text = NamesNoWord pages article ∷ HasNoSentenceAt pages article place ∷ HasTooManyTokens pages text
-    ∷ IsAtLastRevision pages article ∷ HasNoDerivation pages text ∷ []
-
--- a text of the same tokens gets the same sentence
-add_again : (pages : parts.State) (article : List ℕ) (given : Option ℕ) (text text_shown : List ℕ) (new : parts.State) (reply : Reply)
-    → tokens_of pages text_shown ≡ tokens_of pages text → store.IsFree pages (requests.Add article given text)
-    → (x : AddsSentence pages article given text reply new) → text_shown ≡ shown pages.grammar.terminals (tokens_of pages text)
-    → store.Step pages (requests.Add article given text_shown) (replies.Add x.status text_shown) new
-add_again pages article given text text_shown new reply same free x shows = (
-  λ refusal refuses. free refusal (first_alike (add_causes pages article given text_shown) (add_causes pages article given text) (
-    λ r h. h,
-    λ r h. h,
-    (
-      λ r h. h,
-      λ r h. h,
-      (
-        λ r h. h,
-        λ r h. h,
-        (
-          too_many_alike pages text_shown text same,
-          too_many_alike pages text text_shown (sym same),
-          (λ r h. h, λ r h. h, (no_derivation_alike pages text_shown text same, no_derivation_alike pages text text_shown (sym same), tt)),
-        ),
-      ),
-    ),
-  ) refusal refuses),
-  record {
-    word = x.word;
-    named = x.named;
-    place = x.place;
-    at_place = x.at_place;
-    status = x.status;
-    gets = subst (λ (ts : List (List ℕ)). GetStatus (with_inserted pages x.word x.place (record { tokens = ts; status = Asserted })) ts x.status) (sym same)
-        x.gets;
-    answer = ap (λ (it : List ℕ). replies.Add x.status it) (shows ∙ ap (shown pages.grammar.terminals) (sym same));
-    after = x.after
-        ∙ ap (λ (ts : List (List ℕ)). with_inserted pages x.word x.place (record { tokens = ts; status = x.status })) (sym same);
-  },
-)
-
-edit_again : (pages : parts.State) (article : List ℕ) (place : ℕ) (text text_shown : List ℕ) (new : parts.State) (reply : Reply)
-    → tokens_of pages text_shown ≡ tokens_of pages text → store.IsFree pages (requests.Edit article place text)
-    → (x : EditsSentence pages article place text reply new) → text_shown ≡ shown pages.grammar.terminals (tokens_of pages text)
-    → store.Step pages (requests.Edit article place text_shown) (replies.Edit x.status text_shown) new
-edit_again pages article place text text_shown new reply same free x shows = (
-  λ refusal refuses. free refusal (first_alike (edit_causes pages article place text_shown) (edit_causes pages article place text) (
-    λ r h. h,
-    λ r h. h,
-    (
-      λ r h. h,
-      λ r h. h,
-      (
-        too_many_alike pages text_shown text same,
-        too_many_alike pages text text_shown (sym same),
-        (λ r h. h, λ r h. h, (no_derivation_alike pages text_shown text same, no_derivation_alike pages text text_shown (sym same), tt)),
-      ),
-    ),
-  ) refusal refuses),
-  record {
-    word = x.word;
-    named = x.named;
-    status = x.status;
-    gets = subst (λ (ts : List (List ℕ)). GetStatus (with_replaced pages x.word place (record { tokens = ts; status = Asserted })) ts x.status) (sym same)
-        x.gets;
-    answer = ap (λ (it : List ℕ). replies.Edit x.status it) (shows ∙ ap (shown pages.grammar.terminals) (sym same));
-    after = x.after
-        ∙ ap (λ (ts : List (List ℕ)). with_replaced pages x.word place (record { tokens = ts; status = x.status })) (sym same);
-  },
-)
-
--- tokens that get a status are a sentence
-pub status_sentence : (pages : parts.State) (tokens : List (List ℕ)) (status : Status) → GetStatus pages tokens status
-    → IsSentence pages.grammar pages.words tokens
-status_sentence pages tokens status gets = (gets.means.is_least.tree, gets.means.is_least.derives)
-
--- ---- requests on words and sentences
-
-does_made : (old : parts.State) (request : Request) (reply : Reply) (new : parts.State) → AreReady old.grammar old.words → store.Step old request reply new
-    → store.IsFree old request → store.Does old request reply new → IsMade old request reply new
-does_made old (requests.Word kind texts) reply new ready step free x =
-    own_made old (requests.Word kind texts) reply replies.Word new x.answer refl refl refl step
-does_made old (requests.Find text) reply new ready step free x = nothing_made old (requests.Find text) reply _ new x.answer refl x.after
-does_made old requests.Words reply new ready step free x = nothing_made old requests.Words reply _ new x.answer refl x.after
-does_made old (requests.Parse text) reply new ready step free x = nothing_made old (requests.Parse text) reply _ new x.answer refl x.after
-does_made old (requests.Reword text texts) reply new ready step free x =
-    own_made old (requests.Reword text texts) reply replies.Reword new x.answer refl refl refl step
-does_made old (requests.Unword text) reply new ready step free x =
-    own_made old (requests.Unword text) reply replies.Unword new x.answer refl refl refl step
-does_made old (requests.Grammar text) reply new ready step free x =
-    own_made old (requests.Grammar text) reply replies.Grammar new x.answer refl refl refl step
-does_made old (requests.Add article given text) reply new ready step free x =
-    let tokens : List (List ℕ) = tokens_of old text in
-    let text_shown : List ℕ = shown old.grammar.terminals tokens in
-    let same : tokens_of old text_shown ≡ tokens =
-    shown_again old.grammar old.words ready tokens
-    (status_sentence (with_inserted old x.word x.place (sentence_with old text Asserted)) tokens x.status x.gets) in
-    inr (
-      requests.Add article given text_shown,
-      ap (changes_by (requests.Add article given text)) x.answer,
-      refl,
-      subst (λ (r : Reply). store.Step old (requests.Add article given text_shown) r new) (sym (ap reply_again x.answer))
-          (add_again old article given text text_shown new reply same free x refl),
-    )
-does_made old (requests.Edit article place text) reply new ready step free x =
-    let tokens : List (List ℕ) = tokens_of old text in
-    let text_shown : List ℕ = shown old.grammar.terminals tokens in
-    let same : tokens_of old text_shown ≡ tokens =
-    shown_again old.grammar old.words ready tokens
-    (status_sentence (with_replaced old x.word place (sentence_with old text Asserted)) tokens x.status x.gets) in
-    inr (
-      requests.Edit article place text_shown,
-      ap (changes_by (requests.Edit article place text)) x.answer,
-      refl,
-      subst (λ (r : Reply). store.Step old (requests.Edit article place text_shown) r new) (sym (ap reply_again x.answer))
-          (edit_again old article place text text_shown new reply same free x refl),
-    )
-does_made old (requests.Remove article place) reply new ready step free x =
-    own_made old (requests.Remove article place) reply replies.Remove new x.answer refl refl refl step
-does_made old (requests.Retract article place) reply new ready step free x =
-    own_made old (requests.Retract article place) reply (replies.Retract Retracted) new x.answer refl refl refl step
-does_made old (requests.Reassert article place) reply new ready step free x =
-    own_made old (requests.Reassert article place) reply (replies.Reassert x.status) new x.answer refl refl refl step
-does_made old (requests.Read article) reply new ready step free x = nothing_made old (requests.Read article) reply _ new x.answer refl x.after
-does_made old (requests.Axioms article place) reply new ready step free x =
-    nothing_made old (requests.Axioms article place) reply _ new x.answer refl x.after
-does_made old request reply new ready step free x = absurd x
-
-pages_made : (old : parts.State) (request : Request) (reply : Reply) (new : parts.State) → AreReady old.grammar old.words → store.Step old request reply new
-    → IsMade old request reply new
-pages_made old request reply new ready step = by (one.outcome old request reply new step)
-  where
-    by : one.IsRefused old request reply new ⊎ one.IsDone old request reply new → IsMade old request reply new
-    by (inl refused) = refused_made old request reply new refused.0 refused.1 refused.3
-    by (inr done) = does_made old request reply new ready step done.0 done.1
-
--- ---- a session's sentence
 
 -- the session is one of them
 pub session_short : (sessions : List PlainSession) (number : SessionId) (session : PlainSession) → AreShortSessions sessions
@@ -272,140 +181,260 @@ session_short (first ∷ sessions) number session short found =
     by true is rest = subst (λ (s : PlainSession). length s.tokens ≤ 40) (same_Some first session is) short.0
     by false is rest = rest is
 
--- what names a live word is the form of one
-named_lives : (pages : parts.State) (form : List ℕ) (word : WordId) → word_named pages form ≡ Some word → canonical_form_of pages.words.live word ≡ Some form
-    → (refusal : Refusal) → NamesNoWord pages form refusal → ⊥
-named_lives pages form word named spelled refusal h =
-    by (forms_of pages.words.live word) (sym (ap (option_and_then (forms_of pages.words.live)) named) ∙ h.none) spelled
-  where
-    by : (o : Option Forms) → o ≡ None → option_and_then (λ (forms : Forms). slice_get forms.texts (canonical_place forms.kind)) o ≡ Some form → ⊥
-    by None none spelled = none-some form spelled
-    by (Some forms) none spelled = none-some forms (sym none)
+-- tokens that get a status are a sentence
+pub status_sentence : (IsSpent : Spending) (stored : Stored) (tokens : List (List ℕ)) (status : Status) → GetStatus IsSpent stored tokens status
+    → IsSentence stored.grammar stored.words tokens
+status_sentence IsSpent stored tokens status gets = (gets.means.is_least.tree, gets.means.is_least.derives)
 
-module _ (old : State) (number : ℕ) (reply : Reply) (new : State) (ready : AreReady old.pages.grammar old.pages.words) (short : AreShortSessions old.sessions)
-    (free : IsFree old (requests.Commit number)) (x : CommitsSession old number reply new) where
-  abbrev tokens : List (List ℕ)
-  tokens = x.session.tokens
+-- ---- sentences by what shows them
 
-  abbrev text_shown : List ℕ
-  text_shown = shown old.pages.grammar.terminals x.session.tokens
+-- tokens as a sentence with a status
+abbrev pub sentence_of : List (List ℕ) → Status → Sentence
+sentence_of tokens status = record { tokens = tokens; status = status }
 
-  same_tokens : tokens_of old.pages text_shown ≡ tokens
-  same_tokens = shown_again old.pages.grammar old.pages.words ready tokens
-      (status_sentence (with_appended old.pages x.session.article tokens Asserted) tokens x.status x.gets)
+-- what shows tokens
+abbrev pub showing : Stored → List (List ℕ) → List ℕ
+showing stored tokens = shown stored.grammar.terminals tokens
 
-  named : word_named old.pages x.form ≡ Some x.session.article
-  named = canonical_owner old.pages.words.terminals old.pages.words.live ready.readable x.session.article x.form x.spelled
+-- what stands against tokens that are too many, or no sentence
+abbrev pub has_too_many : List (List ℕ) → Refusal → Type 0
+has_too_many tokens = when (amount_of limits.Tokens < length tokens) (full_at limits.Tokens)
 
-  article_is : article_named old.pages x.form ≡ Some x.article
-  article_is = ap (option_and_then (article_of old.pages.articles)) named ∙ x.on
+abbrev pub is_no_sentence : Stored → List (List ℕ) → Refusal → Type 0
+is_no_sentence stored tokens = IsNoSentence stored.grammar stored.words tokens
 
-  place_is : place_for old.pages x.form None ≡ Some (end_of old.pages.articles x.session.article)
-  place_is = ap (option_map (λ (found : Article). unwrap_or None (length found.sentences))) article_is
-      ∙ ap Some (sym (ap (λ (o : Option Article). option_map_or (λ (a : Article). length a.sentences) o 0) x.on))
+-- what stands against tokens that are added, and against ones that are put in place of others
+abbrev pub add_causes : Stored → Option ℕ → Article → List (List ℕ) → List (Refusal → Type 0)
+add_causes stored given article tokens =
+    is_past_end article given ∷ has_no_room stored ∷ has_too_many tokens ∷ is_at_last_revision article ∷ is_no_sentence stored tokens ∷ []
 
-  free_add : store.IsFree old.pages (requests.Add x.form None text_shown)
-  free_add = none_of_six (NamesNoWord old.pages x.form) (IsPastEnd old.pages x.form None) (IsFullOfSentences old.pages) (HasTooManyTokens old.pages text_shown)
-      (IsAtLastRevision old.pages x.form) (HasNoDerivation old.pages text_shown) no_word past_end room few may_change derived
+abbrev pub edit_causes : Stored → ℕ → Article → List (List ℕ) → List (Refusal → Type 0)
+edit_causes stored place article tokens =
+    has_no_place article place ∷ has_too_many tokens ∷ is_at_last_revision article ∷ is_no_sentence stored tokens ∷ []
+
+module _ (IsSpent : Spending) (old new : Stored) (ready : AreReady old.grammar old.words) (form : List ℕ) (article : Article)
+    (named : article_named old form ≡ Some article) (tokens : List (List ℕ)) (status : Status) where
+  answer_is : (answer : List ℕ → Reply) → tokens_of old (showing old tokens) ≡ tokens
+      → answer (showing old tokens) ≡ answer (showing old (tokens_of old (showing old tokens)))
+  answer_is answer same = ap (λ (ts : List (List ℕ)). answer (showing old ts)) (sym same)
+
+  step_on : (asked : ArticleRequest) (reply : Reply) → NoneOf (against_article (alone old) asked article)
+      → DoesOnArticle IsSpent asked article (alone old) reply (alone new) → Step IsSpent (alone old) (requests.OnArticle form asked) reply (alone new)
+  step_on asked reply free does =
+      does_step IsSpent (alone old) (requests.OnArticle form asked) reply (alone new)
+      (free_named (article_named old form) (NoWord form) (against_article (alone old) asked) article named free)
+      (some_and (article_named old form) (λ a. DoesOnArticle IsSpent asked a (alone old) reply (alone new)) article named does)
+
+  -- tokens that are added are added by what shows them
+  pub added_again : (given : Option ℕ) → NoneOf (add_causes old given article tokens)
+      → GetStatus IsSpent (with_inserted old article.word (place_for article given) (sentence_of tokens Asserted)) tokens status
+      → new ≡ with_inserted old article.word (place_for article given) (sentence_of tokens status)
+      → Step IsSpent (alone old) (requests.OnArticle form (of_article.Add given (showing old tokens))) (replies.Add status (showing old tokens)) (alone new)
+  added_again given free gets after =
+      let put = λ (ts : List (List ℕ)) (s : Status). with_inserted old article.word (place_for article given) (sentence_of ts s) in
+      let same : tokens_of old (showing old tokens) ≡ tokens =
+      shown_again old.grammar old.words ready tokens (status_sentence IsSpent (put tokens Asserted) tokens status gets) in
+      step_on (of_article.Add given (showing old tokens)) (replies.Add status (showing old tokens))
+      (subst (λ (ts : List (List ℕ)). NoneOf (add_causes old given article ts)) (sym same) free) (record {
+        stored = record {
+          status = status;
+          gets = subst (λ (ts : List (List ℕ)). GetStatus IsSpent (put ts Asserted) ts status) (sym same) gets;
+          answer = answer_is (replies.Add status) same;
+          after = after ∙ ap (λ (ts : List (List ℕ)). put ts status) (sym same);
+        };
+        sessions = refl;
+        last = refl;
+      })
+
+  -- so are those that are put in place of others
+  pub edited_again : (place : ℕ) → NoneOf (edit_causes old place article tokens)
+      → GetStatus IsSpent (with_replaced old article.word place (sentence_of tokens Asserted)) tokens status
+      → new ≡ with_replaced old article.word place (sentence_of tokens status)
+      → Step IsSpent (alone old) (requests.OnArticle form (of_article.Edit place (showing old tokens))) (replies.Edit status (showing old tokens)) (alone new)
+  edited_again place free gets after =
+      let put = λ (ts : List (List ℕ)) (s : Status). with_replaced old article.word place (sentence_of ts s) in
+      let same : tokens_of old (showing old tokens) ≡ tokens =
+      shown_again old.grammar old.words ready tokens (status_sentence IsSpent (put tokens Asserted) tokens status gets) in
+      step_on (of_article.Edit place (showing old tokens)) (replies.Edit status (showing old tokens))
+      (subst (λ (ts : List (List ℕ)). NoneOf (edit_causes old place article ts)) (sym same) free) (record {
+        stored = record {
+          status = status;
+          gets = subst (λ (ts : List (List ℕ)). GetStatus IsSpent (put ts Asserted) ts status) (sym same) gets;
+          answer = answer_is (replies.Edit status) same;
+          after = after ∙ ap (λ (ts : List (List ℕ)). put ts status) (sym same);
+        };
+        sessions = refl;
+        last = refl;
+      })
+
+-- ---- a session's sentence
+
+none_of_five : (a b c d e : Refusal → Type 0) → IsAbsent a → IsAbsent b → IsAbsent c → IsAbsent d → IsAbsent e → NoneOf (a ∷ b ∷ c ∷ d ∷ e ∷ [])
+none_of_five a b c d e no_a no_b no_c no_d no_e =
+    none_stands a (b ∷ c ∷ d ∷ e ∷ []) no_a
+    (none_stands b (c ∷ d ∷ e ∷ []) no_b
+    (none_stands c (d ∷ e ∷ []) no_c (none_stands d (e ∷ []) no_d (none_stands e [] no_e nothing_stands))))
+
+module _ (IsSpent : Spending) (old : State) (number : ℕ) (session : PlainSession) (reply : Reply) (new : State)
+    (ready : AreReady old.stored.grammar old.stored.words) (few : length session.tokens ≤ 40)
+    (free : NoneOf (against_session old of_session.Commit session)) (x : CommitsSession IsSpent session old reply new) where
+  form_named : word_named old.stored x.form ≡ Some session.article
+  form_named = canonical_owner old.stored.words.terminals old.stored.words.live ready.readable session.article x.form x.spelled
+
+  article_is : article_named old.stored x.form ≡ Some x.article
+  article_is = ap (option_and_then (article_of old.stored.articles)) form_named ∙ x.on
+
+  end_is : end_of old.stored.articles session.article ≡ length x.article.sentences
+  end_is = ap (λ (o : Option Article). option_map_or (λ (a : Article). length a.sentences) o 0) x.on
+
+  appended_is : (status : Status) → with_appended old.stored session.article session.tokens status
+      ≡ with_inserted old.stored x.article.word (place_for x.article None) (sentence_of session.tokens status)
+  appended_is status =
+      ap (λ (place : ℕ). with_inserted old.stored session.article place (sentence_of session.tokens status)) end_is
+      ∙ ap (λ (word : WordId). with_inserted old.stored word (length x.article.sentences) (sentence_of session.tokens status))
+      (sym (word_is old.stored.articles session.article x.article x.on))
+
+  free_add : NoneOf (add_causes old.stored None x.article session.tokens)
+  free_add = none_of_five (is_past_end x.article None) (has_no_room old.stored) (has_too_many session.tokens) (is_at_last_revision x.article)
+      (is_no_sentence old.stored session.tokens) (λ refusal h. h.0) room many last derived
     where
-      behind : IsAbsent (FirstOf (IsFullOfSentences old.pages ∷ IsAtLastChange old number ∷ IsStale old number ∷ IsUnfinished old number ∷ []))
-      behind = free_rest (NamesNoSession old number)
-          (IsFullOfSentences old.pages ∷ IsAtLastChange old number ∷ IsStale old number ∷ IsUnfinished old number ∷ []) free
+      room : IsAbsent (has_no_room old.stored)
+      room = free_head (has_no_room old.stored)
+          (on_its_article old.stored session is_at_last_revision ∷ on_its_article old.stored session (is_stale session)
+          ∷ is_unfinished old.stored session ∷ []) free
 
-      room : IsAbsent (IsFullOfSentences old.pages)
-      room = free_head (IsFullOfSentences old.pages) (IsAtLastChange old number ∷ IsStale old number ∷ IsUnfinished old number ∷ []) behind
+      many : IsAbsent (has_too_many session.tokens)
+      many refusal h = let over = h.0 in omega (arith, few, over)
 
-      not_last : IsAbsent (IsAtLastChange old number)
-      not_last = free_head (IsAtLastChange old number) (IsStale old number ∷ IsUnfinished old number ∷ [])
-          (free_rest (IsFullOfSentences old.pages) (IsAtLastChange old number ∷ IsStale old number ∷ IsUnfinished old number ∷ []) behind)
+      last : IsAbsent (is_at_last_revision x.article)
+      last refusal h =
+          free_second (has_no_room old.stored) (on_its_article old.stored session is_at_last_revision)
+          (on_its_article old.stored session (is_stale session) ∷ is_unfinished old.stored session ∷ []) free refusal (x.article, x.on, h)
 
-      no_word : IsAbsent (NamesNoWord old.pages x.form)
-      no_word = named_lives old.pages x.form x.session.article named x.spelled
-
-      past_end : IsAbsent (IsPastEnd old.pages x.form None)
-      past_end refusal h = none-some h.place h.is
-
-      few : IsAbsent (HasTooManyTokens old.pages text_shown)
-      few refusal h =
-          let within = session_short old.sessions _ x.session short x.named in
-          let many : 40 < length tokens = subst (λ (ts : List (List ℕ)). 40 < length ts) same_tokens h.many in
-          omega (arith, within, many)
-
-      may_change : IsAbsent (IsAtLastRevision old.pages x.form)
-      may_change refusal h =
-          let same : h.article ≡ x.article = same_Some h.article x.article (sym h.named ∙ article_is) in
-          not_last refusal (record {
-            session = x.session;
-            named = x.named;
-            article = x.article;
-            on = x.on;
-            last = subst (λ (a : Article). a.revision.0 ≡ amount_of limits.Numbers) same h.last;
-            told = h.told;
-          })
-
-      derived : IsAbsent (HasNoDerivation old.pages text_shown)
+      derived : IsAbsent (is_no_sentence old.stored session.tokens)
       derived refusal h =
-          h.none (subst (λ (ts : List (List ℕ)). IsSentence old.pages.grammar old.pages.words ts) (sym same_tokens)
-          (status_sentence (with_appended old.pages x.session.article tokens Asserted) tokens x.status x.gets))
+          h.none (status_sentence IsSpent (with_appended old.stored session.article session.tokens Asserted) session.tokens x.status x.gets)
 
-  commit_again : store.Step old.pages (requests.Add x.form None text_shown) (replies.Add x.status text_shown) new.pages
-  commit_again = (
-    free_add,
-    record {
-      word = x.session.article;
-      named = named;
-      place = end_of old.pages.articles x.session.article;
-      at_place = place_is;
-      status = x.status;
-      gets = subst (λ (ts : List (List ℕ)). GetStatus (with_appended old.pages x.session.article ts Asserted) ts x.status) (sym same_tokens) x.gets;
-      answer = ap (λ (ts : List (List ℕ)). replies.Add x.status (shown old.pages.grammar.terminals ts)) (sym same_tokens);
-      after = ap (λ (s : State). s.pages) x.after
-          ∙ ap (λ (ts : List (List ℕ)). with_appended old.pages x.session.article ts x.status) (sym same_tokens);
-    },
-  )
+  commit_made : IsMade IsSpent old.stored (requests.OnSession number of_session.Commit) reply new.stored
+  commit_made =
+      let change = requests.OnArticle x.form (of_article.Add None (showing old.stored session.tokens)) in
+      inr (
+        change,
+        ap (changes_by (requests.OnSession number of_session.Commit)) x.answer,
+        refl,
+        subst (λ (r : Reply). Step IsSpent (alone old.stored) change r (alone new.stored)) (sym (ap reply_again x.answer))
+            (added_again IsSpent old.stored new.stored ready x.form x.article article_is session.tokens x.status None free_add
+            (subst (λ (p : Stored). GetStatus IsSpent p session.tokens x.status) (appended_is Asserted) x.gets)
+            (ap (λ (s : State). s.stored) x.after ∙ appended_is x.status)),
+      )
 
-  pub commit_made : IsMade old.pages (requests.Commit number) reply new.pages
-  commit_made = inr (
-    requests.Add x.form None text_shown,
-    ap (changes_by (requests.Commit number)) x.answer,
-    refl,
-    subst (λ (r : Reply). store.Step old.pages (requests.Add x.form None text_shown) r new.pages) (sym (ap reply_again x.answer)) commit_again,
-  )
+-- ---- one step
 
-session_done : (old : State) (request : Request) (reply : Reply) (new : State) → AreReady old.pages.grammar old.pages.words → AreShortSessions old.sessions
-    → whole.IsDone old request reply new → IsMade old.pages request reply new.pages
-session_done old (requests.Begin article) reply new ready short (free, x) =
-    nothing_made old.pages (requests.Begin article) reply _ new.pages x.answer refl (ap (λ (s : State). s.pages) x.after)
-session_done old (requests.Put session text) reply new ready short (free, x) =
-    nothing_made old.pages (requests.Put session text) reply _ new.pages x.answer refl (ap (λ (s : State). s.pages) x.after)
-session_done old (requests.Back session) reply new ready short (free, x) =
-    nothing_made old.pages (requests.Back session) reply _ new.pages x.answer refl (ap (λ (s : State). s.pages) x.after)
-session_done old (requests.Menu session) reply new ready short (free, x) =
-    nothing_made old.pages (requests.Menu session) reply _ new.pages x.tells.answer refl (ap (λ (s : State). s.pages) x.after)
-session_done old (requests.Commit session) reply new ready short (free, x) = commit_made old session reply new ready short free x
-session_done old (requests.Refresh session) reply new ready short (free, x) =
-    nothing_made old.pages (requests.Refresh session) reply _ new.pages x.answer refl (ap (λ (s : State). s.pages) x.after)
-session_done old (requests.Drop session) reply new ready short (free, x) =
-    nothing_made old.pages (requests.Drop session) reply _ new.pages x.answer refl (ap (λ (s : State). s.pages) x.after)
-session_done old request reply new ready short (free, x) = absurd x
+module _ (IsSpent : Spending) (old : State) (reply : Reply) (new : State) (ready : AreReady old.stored.grammar old.stored.words) where
+  -- a request that changes nothing that is stored
+  nothing_made : (request : Request) (fixed : Reply) → reply ≡ fixed → changes_by request fixed ≡ [] → new.stored ≡ old.stored
+      → IsMade IsSpent old.stored request reply new.stored
+  nothing_made request fixed is none same = inl (ap (changes_by request) is ∙ none, same)
 
-session_made : (old : State) (request : Request) (reply : Reply) (new : State) → AreReady old.pages.grammar old.pages.words → AreShortSessions old.sessions
-    → StepsSession old request reply new → IsMade old.pages request reply new.pages
-session_made old request reply new ready short step = by (whole.outcome old request reply new step)
-  where
-    by : whole.IsRefused old request reply new ⊎ whole.IsDone old request reply new → IsMade old.pages request reply new.pages
-    by (inl refused) = refused_made old.pages request reply new.pages refused.0 refused.1 (ap (λ (s : State). s.pages) refused.3)
-    by (inr done) = session_done old request reply new ready short done
+  told_made : (request : Request) (fixed : Reply) → reply ≡ fixed → changes_by request fixed ≡ [] → new ≡ old
+      → IsMade IsSpent old.stored request reply new.stored
+  told_made request fixed is none same = nothing_made request fixed is none (ap (λ (s : State). s.stored) same)
 
--- A step that is no change leaves words and sentences. A change is made again by the request that tells it, from the same words and
--- sentences to the same ones, with the same status and the same text.
-pub step_made : (old : State) (request : Request) (reply : Reply) (new : State) → AreReady old.pages.grammar old.pages.words → AreShortSessions old.sessions
-    → Step old request reply new → IsMade old.pages request reply new.pages
-step_made old (requests.Begin article) reply new ready short step = session_made old (requests.Begin article) reply new ready short step
-step_made old (requests.Put session text) reply new ready short step = session_made old (requests.Put session text) reply new ready short step
-step_made old (requests.Back session) reply new ready short step = session_made old (requests.Back session) reply new ready short step
-step_made old (requests.Menu session) reply new ready short step = session_made old (requests.Menu session) reply new ready short step
-step_made old (requests.Commit session) reply new ready short step = session_made old (requests.Commit session) reply new ready short step
-step_made old (requests.Refresh session) reply new ready short step = session_made old (requests.Refresh session) reply new ready short step
-step_made old (requests.Drop session) reply new ready short step = session_made old (requests.Drop session) reply new ready short step
-step_made old request reply new ready short step = pages_made old.pages request reply new.pages ready step.pages
+  -- a request that is a change as it stands
+  own_made : (request : Request) (fixed : Reply) → reply ≡ fixed → changes_by request fixed ≡ request ∷ [] → own_change request ≡ request ∷ []
+      → reply_again fixed ≡ fixed → Step IsSpent old request reply new → IsMade IsSpent old.stored request reply new.stored
+  own_made request fixed is itself own again step =
+      inr (
+        request,
+        ap (changes_by request) is ∙ itself,
+        own,
+        subst (λ (r : Reply). Step IsSpent (alone old.stored) request r (alone new.stored)) (is ∙ sym again ∙ sym (ap reply_again is))
+            (step_alone IsSpent old reply new request own step),
+      )
+
+  wiki_made : (asked : WikiRequest) → DoesOnWiki asked old reply new → Step IsSpent old (requests.OnWiki asked) reply new
+      → IsMade IsSpent old.stored (requests.OnWiki asked) reply new.stored
+  wiki_made (of_wiki.Word kind texts) x step = own_made (requests.OnWiki (of_wiki.Word kind texts)) replies.Word x.stored.answer refl refl refl step
+  wiki_made of_wiki.Words x step = told_made (requests.OnWiki of_wiki.Words) _ x.0 refl x.1
+  wiki_made (of_wiki.Parse text) x step = told_made (requests.OnWiki (of_wiki.Parse text)) _ x.0.answer refl x.1
+  wiki_made (of_wiki.Grammar text) x step = own_made (requests.OnWiki (of_wiki.Grammar text)) replies.Grammar x.stored.answer refl refl refl step
+
+  word_made : (form : List ℕ) (asked : WordRequest) (word : Word) → DoesOnWord asked word old reply new
+      → Step IsSpent old (requests.OnWord form asked) reply new → IsMade IsSpent old.stored (requests.OnWord form asked) reply new.stored
+  word_made form of_word.Find word x step = told_made (requests.OnWord form of_word.Find) _ x.0 refl x.1
+  word_made form (of_word.Reword texts) word x step =
+      own_made (requests.OnWord form (of_word.Reword texts)) replies.Reword x.stored.answer refl refl refl step
+  word_made form of_word.Unword word x step = own_made (requests.OnWord form of_word.Unword) replies.Unword x.stored.answer refl refl refl step
+
+  article_made : (form : List ℕ) (asked : ArticleRequest) (article : Article) → article_named old.stored form ≡ Some article
+      → NoneOf (against_article old asked article) → DoesOnArticle IsSpent asked article old reply new
+      → Step IsSpent old (requests.OnArticle form asked) reply new → IsMade IsSpent old.stored (requests.OnArticle form asked) reply new.stored
+  article_made form of_article.Read article named free x step = told_made (requests.OnArticle form of_article.Read) _ x.0.answer refl x.1
+  article_made form (of_article.Add given text) article named free x step =
+      let change = requests.OnArticle form (of_article.Add given (showing old.stored (tokens_of old.stored text))) in
+      inr (
+        change,
+        ap (changes_by (requests.OnArticle form (of_article.Add given text))) x.stored.answer,
+        refl,
+        subst (λ (r : Reply). Step IsSpent (alone old.stored) change r (alone new.stored)) (sym (ap reply_again x.stored.answer))
+            (added_again IsSpent old.stored new.stored ready form article named (tokens_of old.stored text) x.stored.status given free x.stored.gets
+            x.stored.after),
+      )
+  article_made form (of_article.Edit place text) article named free x step =
+      let change = requests.OnArticle form (of_article.Edit place (showing old.stored (tokens_of old.stored text))) in
+      inr (
+        change,
+        ap (changes_by (requests.OnArticle form (of_article.Edit place text))) x.stored.answer,
+        refl,
+        subst (λ (r : Reply). Step IsSpent (alone old.stored) change r (alone new.stored)) (sym (ap reply_again x.stored.answer))
+            (edited_again IsSpent old.stored new.stored ready form article named (tokens_of old.stored text) x.stored.status place free x.stored.gets
+            x.stored.after),
+      )
+  article_made form (of_article.Remove place) article named free x step =
+      own_made (requests.OnArticle form (of_article.Remove place)) replies.Remove x.stored.answer refl refl refl step
+  article_made form (of_article.Retract place) article named free x step =
+      own_made (requests.OnArticle form (of_article.Retract place)) (replies.Retract Retracted) x.stored.answer refl refl refl step
+  article_made form (of_article.Reassert place) article named free x step =
+      own_made (requests.OnArticle form (of_article.Reassert place)) (replies.Reassert x.stored.status) x.stored.answer refl refl refl step
+  article_made form (of_article.Axioms place) article named free x step =
+      told_made (requests.OnArticle form (of_article.Axioms place)) _ x.0.answer refl x.1
+  article_made form of_article.Open article named free x step =
+      nothing_made (requests.OnArticle form of_article.Open) _ x.answer refl (ap (λ (s : State). s.stored) x.after)
+
+  session_made : (number : ℕ) (asked : SessionRequest) (session : PlainSession) → length session.tokens ≤ 40
+      → NoneOf (against_session old asked session) → DoesOnSession IsSpent asked session old reply new
+      → IsMade IsSpent old.stored (requests.OnSession number asked) reply new.stored
+  session_made number (of_session.Type text) session few free x =
+      nothing_made (requests.OnSession number (of_session.Type text)) _ x.answer refl (ap (λ (s : State). s.stored) x.after)
+  session_made number of_session.Back session few free x =
+      nothing_made (requests.OnSession number of_session.Back) _ x.answer refl (ap (λ (s : State). s.stored) x.after)
+  session_made number of_session.Menu session few free x = told_made (requests.OnSession number of_session.Menu) _ x.0.answer refl x.1
+  session_made number of_session.Commit session few free x = commit_made IsSpent old number session reply new ready few free x
+  session_made number of_session.Refresh session few free x =
+      nothing_made (requests.OnSession number of_session.Refresh) _ x.answer refl (ap (λ (s : State). s.stored) x.after)
+  session_made number of_session.Drop session few free x =
+      nothing_made (requests.OnSession number of_session.Drop) _ x.answer refl (ap (λ (s : State). s.stored) x.after)
+
+  does_made : (request : Request) → AreShortSessions old.sessions → IsFree old request → Does IsSpent old request reply new
+      → Step IsSpent old request reply new → IsMade IsSpent old.stored request reply new.stored
+  does_made (requests.OnWiki asked) short free x step = wiki_made asked x step
+  does_made (requests.OnWord form asked) short free x step =
+      let found = some_is (word_with old.stored form) (λ word. DoesOnWord asked word old reply new) x in word_made form asked found.it found.is step
+  does_made (requests.OnArticle form asked) short free x step =
+      let found = some_is (article_named old.stored form) (λ article. DoesOnArticle IsSpent asked article old reply new) x in
+      article_made form asked found.it found.named
+      (free_of_it (article_named old.stored form) (NoWord form) (against_article old asked) found.it found.named free) found.is step
+  does_made (requests.OnSession number asked) short free x step =
+      let found = some_is (session_numbered old number) (λ session. DoesOnSession IsSpent asked session old reply new) x in
+      session_made number asked found.it (session_short old.sessions _ found.it short found.named)
+      (free_of_it (session_numbered old number) (NoSession number) (against_session old asked) found.it found.named free) found.is
+
+  -- A step that is no change leaves what is stored. A change is made again by the request that tells it, from what is stored to the same,
+  -- with the same status and the same text.
+  pub step_made : (request : Request) → AreShortSessions old.sessions → Step IsSpent old request reply new
+      → IsMade IsSpent old.stored request reply new.stored
+  step_made request short step = by (outcome IsSpent old request reply new step)
+    where
+      by : IsRefused old request reply new ⊎ IsDone IsSpent old request reply new → IsMade IsSpent old.stored request reply new.stored
+      by (inl refused) = inl (ap (changes_by request) refused.1, ap (λ (s : State). s.stored) refused.3)
+      by (inr done) = does_made request short done.0 done.1 step

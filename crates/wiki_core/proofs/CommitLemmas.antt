@@ -7,27 +7,30 @@ use Rattle.logic_terms.specs.Concept.{Claim}
 use Rattle.logic_terms.specs.Reading.{IsModel}
 use Rattle.wiki_talk.specs.declared.statuses.Status.{Status}
 use Rattle.wiki_talk.specs.declared.statuses.Status.TheVariants.{Asserted, RedBudget}
-use Rattle.wiki_talk.specs.declared.refusals.Refusal.{Refusal}
 use Rattle.wiki_talk.specs.declared.replies.Reply.TheVariants as replies
 use Rattle.articles.specs.declared.sentences.Sentence.{Sentence}
 use Rattle.articles.specs.declared.article.Article.{Article}
 use Rattle.articles.specs.Articles.{article_of, is_of, changed, with_change as with_article}
 use Rattle.sessions.specs.declared.session.Session.{Session}
-use Rattle.sessions.specs.Sessions.{PlainSession, all_plain, with_change, with_tokens, with_revision, AreSessions, AreKeptOn}
-use Rattle.wiki_parts.specs.State as parts
-use Rattle.wiki_parts.specs.Faults.{IsAbsent}
-use Rattle.wiki_parts.specs.Knowledge.{GetStatus, Knows}
-use Rattle.wiki_parts.specs.Refusing.{FirstOf}
-use Rattle.wiki_parts.proofs.FirstLemmas.{none_stands, nothing_stands}
-use Rattle.wiki_store.specs.Appending.{with_appended, SpendsAtEnd}
+use Rattle.plain_wiki.specs.Sessions.{PlainSession, with_change, with_tokens, with_revision}
+use Rattle.sessions.specs.Sessions.{all_plain, AreSessions, AreKeptOn}
+use Rattle.plain_wiki.specs.State.{Stored}
+use Rattle.plain_wiki.specs.Knowledge.{Spending, GetStatus, Knows}
+use Rattle.plain_wiki.specs.Places.{numbered, session_numbered}
+use Rattle.wiki_talk.specs.declared.requests.Request.TheVariants as requests
+use Rattle.wiki_talk.specs.declared.requests.SessionRequest.TheVariants as of_session
+use Rattle.wiki_base.specs.declared.numbers.SessionId.{SessionId}
+use Rattle.std.specs.Option.{IsSomeAnd}
+use Rattle.plain_wiki.specs.Doing.{with_appended, CommitsSession}
+use Rattle.wiki_store.specs.Spending.{SpendsAtEnd}
 use Rattle.wiki_core.specs.declared.committing.Draft.{Draft}
-use Rattle.wiki_core.specs.State.{State}
-use Rattle.wiki_core.specs.Holding.{Holding, pages_held}
-use Rattle.wiki_core.specs.Step.{CommitsSession}
-use Rattle.wiki_core.specs.Spending.{CommitSpendsBeyondKept}
+use Rattle.plain_wiki.specs.State.{State}
+use Rattle.wiki_core.specs.Holding.{Holding, store_held}
+use Rattle.wiki_core.specs.Spending.{SpendsBeyondKept}
 use Rattle.wiki_core.specs.Drafts.{IsDraftOf}
 use Rattle.wiki_core.specs.Keeping.{AreHeld}
 use Rattle.wiki_core.proofs.KeyLaws.{changed_at, find_changed, found_passes}
+use Rattle.wiki_core.proofs.NamedLemmas.{some_and, number_is}
 use Rattle.wiki_core.proofs.PagesLemmas.{go_on_changed}
 use Rattle.wiki_core.proofs.HeldLemmas.{Fits, on_there, plain_in_order, held_changed}
 
@@ -35,62 +38,61 @@ use Rattle.wiki_core.proofs.HeldLemmas.{Fits, on_there, plain_in_order, held_cha
 abbrev pub begun : Rev → PlainSession → PlainSession
 begun revision session = with_revision revision (with_tokens (λ _. []) session)
 
--- none of five causes stands where none of them does
-pub none_of_five : (a b c d e : Refusal → Type 0) → IsAbsent a → IsAbsent b → IsAbsent c → IsAbsent d → IsAbsent e → IsAbsent (FirstOf (a ∷ b ∷ c ∷ d ∷ e ∷ []))
-none_of_five a b c d e no_a no_b no_c no_d no_e =
-    none_stands a (b ∷ c ∷ d ∷ e ∷ []) no_a
-    (none_stands b (c ∷ d ∷ e ∷ []) no_b (none_stands c (d ∷ e ∷ []) no_c (none_stands d (e ∷ []) no_d (none_stands e [] no_e nothing_stands))))
-
--- none of three causes stands where none of them does
-pub none_of_three : (a b c : Refusal → Type 0) → IsAbsent a → IsAbsent b → IsAbsent c → IsAbsent (FirstOf (a ∷ b ∷ c ∷ []))
-none_of_three a b c no_a no_b no_c = none_stands a (b ∷ c ∷ []) no_a (none_stands b (c ∷ []) no_b (none_stands c [] no_c nothing_stands))
-
 -- a state of these parts
-abbrev pub state_of : parts.State → List PlainSession → ℕ → State
-state_of pages sessions last = record { pages = pages; sessions = sessions; last = last }
+abbrev pub state_of : Stored → List PlainSession → ℕ → State
+state_of pages sessions last = record { stored = pages; sessions = sessions; last = last }
 
 -- the commit of a draft that was stored
-pub commits : (pages : parts.State) (sessions : List PlainSession) (last number : ℕ) (draft : Draft) (status : Status) (new_pages : parts.State)
+pub commits : (IsSpent : Spending) (pages : Stored) (sessions : List PlainSession) (last number : ℕ) (draft : Draft) (status : Status) (new_pages : Stored)
     (new_sessions : List PlainSession)
-    → IsDraftOf (record { pages = pages; sessions = sessions; last = last }) number draft
-    → GetStatus (with_appended pages draft.word draft.tokens Asserted) draft.tokens status
+    → IsDraftOf (state_of pages sessions last) number draft
+    → GetStatus IsSpent (with_appended pages draft.word draft.tokens Asserted) draft.tokens status
     → new_pages ≡ with_appended pages draft.word draft.tokens status
-    → new_sessions ≡ with_change sessions (record { 0 = number }) (begun (record { 0 = draft.revision.0 + 1 }))
-    → CommitsSession (record { pages = pages; sessions = sessions; last = last }) number (replies.Commit draft.form status draft.shown)
-    (record { pages = new_pages; sessions = new_sessions; last = last })
-commits pages sessions last number draft status new_pages new_sessions is gets pages_after sessions_after = record {
-  session = is.session;
-  named = is.named;
-  article = is.article;
-  on = is.on;
-  form = draft.form;
-  spelled = is.spelled;
-  status = status;
-  gets = subst (λ (tokens : List (List ℕ)). GetStatus (with_appended pages is.session.article tokens Asserted) tokens status) is.tokens
-      (subst (λ (word : WordId). GetStatus (with_appended pages word draft.tokens Asserted) draft.tokens status) is.word gets);
-  answer = ap (λ (text : List ℕ). replies.Commit draft.form status text) is.shows;
-  after =
-      same_state new_pages (with_appended pages is.session.article is.session.tokens status) new_sessions
-      (with_change sessions (record { 0 = number }) (begun (record { 0 = is.article.revision.0 + 1 })))
-      (pages_after ∙ ap (λ (word : WordId). with_appended pages word draft.tokens status) is.word
-      ∙ ap (λ (tokens : List (List ℕ)). with_appended pages is.session.article tokens status) is.tokens)
-      (sessions_after ∙ ap (λ (revision : Rev). with_change sessions (record { 0 = number }) (begun (record { 0 = revision.0 + 1 }))) is.revision);
-}
+    → new_sessions ≡ with_change sessions (numbered number) (begun (record { 0 = draft.revision.0 + 1 }))
+    → IsSomeAnd (session_numbered (state_of pages sessions last) number)
+    (λ session. CommitsSession IsSpent session (state_of pages sessions last) (replies.Commit draft.form status draft.shown)
+    (state_of new_pages new_sessions last))
+commits IsSpent pages sessions last number draft status new_pages new_sessions is gets pages_after sessions_after =
+    some_and (session_numbered (state_of pages sessions last) number)
+    (λ session. CommitsSession IsSpent session (state_of pages sessions last) (replies.Commit draft.form status draft.shown)
+    (state_of new_pages new_sessions last))
+    is.session is.named done
   where
-    same_state : (p q : parts.State) (ss ts : List PlainSession) → p ≡ q → ss ≡ ts → state_of p ss last ≡ state_of q ts last
-    same_state p q ss ts same also = ap (λ (r : parts.State). state_of r ss last) same ∙ ap (λ (us : List PlainSession). state_of q us last) also
+    same_state : (p q : Stored) (ss ts : List PlainSession) → p ≡ q → ss ≡ ts → state_of p ss last ≡ state_of q ts last
+    same_state p q ss ts same also = ap (λ (r : Stored). state_of r ss last) same ∙ ap (λ (us : List PlainSession). state_of q us last) also
+
+    done : CommitsSession IsSpent is.session (state_of pages sessions last) (replies.Commit draft.form status draft.shown)
+        (state_of new_pages new_sessions last)
+    done = record {
+      article = is.article;
+      on = is.on;
+      form = draft.form;
+      spelled = is.spelled;
+      status = status;
+      gets = subst (λ (tokens : List (List ℕ)). GetStatus IsSpent (with_appended pages is.session.article tokens Asserted) tokens status) is.tokens
+          (subst (λ (word : WordId). GetStatus IsSpent (with_appended pages word draft.tokens Asserted) draft.tokens status) is.word gets);
+      answer = ap (λ (text : List ℕ). replies.Commit draft.form status text) is.shows;
+      after =
+          same_state new_pages (with_appended pages is.session.article is.session.tokens status) new_sessions
+          (with_change sessions is.session.number (begun (record { 0 = is.article.revision.0 + 1 })))
+          (pages_after ∙ ap (λ (word : WordId). with_appended pages word draft.tokens status) is.word
+          ∙ ap (λ (tokens : List (List ℕ)). with_appended pages is.session.article tokens status) is.tokens)
+          (sessions_after ∙ ap (λ (revision : Rev). with_change sessions (numbered number) (begun (record { 0 = revision.0 + 1 }))) is.revision
+          ∙ ap (λ (id : SessionId). with_change sessions id (begun (record { 0 = is.article.revision.0 + 1 })))
+          (sym (number_is sessions (numbered number) is.session is.named)));
+    }
 
 -- a draft that is red for the budget
 pub commit_spends : (old : Holding) (number : ℕ) (draft : Draft) (status : Status) → IsDraftOf old.state number draft
-    → SpendsAtEnd (pages_held old) draft.word draft.tokens status
-    → CommitSpendsBeyondKept old number (replies.Commit draft.form status draft.shown)
+    → SpendsAtEnd (store_held old) draft.word draft.tokens status
+    → SpendsBeyondKept old (requests.OnSession number of_session.Commit) (replies.Commit draft.form status draft.shown)
 commit_spends old number draft status is spends told =
-    subst (λ (o : Option PlainSession). IfSome (option_map (λ session. with_appended old.state.pages session.article session.tokens Asserted) o)
+    subst (λ (o : Option PlainSession). IfSome (option_map (λ session. with_appended old.state.stored session.article session.tokens Asserted) o)
     (λ taken. (claims : List Claim) → Knows taken claims → IsModel old.interpretation claims → ⊥))
     (sym is.named)
     (λ claims known. spends (same_Some status RedBudget told) claims
-    (subst (λ (word : WordId). Knows (with_appended old.state.pages word draft.tokens Asserted) claims) (sym is.word)
-    (subst (λ (tokens : List (List ℕ)). Knows (with_appended old.state.pages is.session.article tokens Asserted) claims) (sym is.tokens) known)))
+    (subst (λ (word : WordId). Knows (with_appended old.state.stored word draft.tokens Asserted) claims) (sym is.word)
+    (subst (λ (tokens : List (List ℕ)). Knows (with_appended old.state.stored is.session.article tokens Asserted) claims) (sym is.tokens) known)))
 
 -- a session that begins its next sentence fits its article
 begun_fits : (articles : List Article) (session : PlainSession) (article : Article) (change : List Sentence → List Sentence) (revision : Rev) (last : ℕ)
@@ -109,13 +111,13 @@ begun_fits articles session article change revision last there next numbered = r
 }
 
 -- what is kept of sessions after a commit
-pub commit_held : (pages after : parts.State) (old new : List Session) (last number : ℕ) (draft : Draft) (status : Status) → AreHeld pages old last
+pub commit_held : (pages after : Stored) (old new : List Session) (last number : ℕ) (draft : Draft) (status : Status) → AreHeld pages old last
     → AreSessions old
-    → IsDraftOf (record { pages = pages; sessions = all_plain old; last = last }) number draft → after ≡ with_appended pages draft.word draft.tokens status
+    → IsDraftOf (record { stored = pages; sessions = all_plain old; last = last }) number draft → after ≡ with_appended pages draft.word draft.tokens status
     → all_plain new ≡ with_change (all_plain old) (record { 0 = number }) (begun (record { 0 = draft.revision.0 + 1 })) → AreKeptOn old new
     → AreHeld after new last
 commit_held pages after old new last number draft status held are is after_is changed_is kept_on =
-    subst (λ (p : parts.State). AreHeld p new last) (sym after_here)
+    subst (λ (p : Stored). AreHeld p new last) (sym after_here)
     (held_changed pages (with_appended pages is.session.article draft.tokens status) old new last (record { 0 = number })
     (begun (record { 0 = draft.revision.0 + 1 })) is.session held
     (plain_in_order old are.in_order) is.named (go_on_changed pages.articles is.session.article _) (kept_on pages.grammar pages.words held.kept) changed_is

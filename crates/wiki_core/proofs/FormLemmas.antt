@@ -30,7 +30,7 @@ use Rattle.derivation_trees.proofs.WordLemmas.{excluded, placed_step, no_fault}
 use Rattle.derivations.proofs.GrowLemmas.{Each}
 use Rattle.derivations.proofs.TokenLemmas.{text_token}
 use Rattle.wiki_talk.specs.declared.refusals.Refusal.TheVariants.{BadForm}
-use Rattle.wiki_parts.specs.Words.{bad_text, bad_count, number_of}
+use Rattle.plain_wiki.specs.Words.{bad_text, bad_count, number_of}
 
 -- a whole token in UTF-8 of at most 64 bytes, as each form of a word is
 pub record IsForm (text : List ℕ) : Type 0 where

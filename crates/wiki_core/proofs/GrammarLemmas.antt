@@ -1,5 +1,5 @@
 -- The grammar of a wiki over a step, and its terminals.
-use Rattle.std.proofs.Common.{◌≡◌, ℕ, ◌≤◌, Bool, true, false, ◌||◌, List, [], ◌∷◌, length, ◌⊎◌, inl, inr, All, refl, sym, ap, subst}
+use Rattle.std.proofs.Common.{◌≡◌, ℕ, ◌≤◌, true, false, List, [], ◌∷◌, length, ◌⊎◌, inl, inr, All, refl, sym, ap, subst}
 use Rattle.std.specs.Str.{bytes_eq, IsUtf8}
 use Rattle.std.proofs.lemmas.Bool.{false≢true, or_cases}
 use Rattle.std.proofs.lemmas.List.Elements.{All-head, All-tail}
@@ -12,13 +12,23 @@ use Rattle.derivation_trees.specs.Cutting.{is_terminal}
 use Rattle.wiki_talk.specs.declared.replies.Reply.{Reply}
 use Rattle.wiki_talk.specs.declared.requests.Request.{Request}
 use Rattle.wiki_talk.specs.declared.requests.Request.TheVariants as requests
-use Rattle.wiki_parts.specs.State as parts
-use Rattle.wiki_store.specs.Step as store
-use Rattle.wiki_core.specs.State.{State}
-use Rattle.wiki_core.specs.Step.{Step, StepsSession}
+use Rattle.wiki_talk.specs.declared.requests.WikiRequest.TheVariants as of_wiki
+use Rattle.wiki_talk.specs.declared.requests.WordRequest.{WordRequest}
+use Rattle.wiki_talk.specs.declared.requests.WordRequest.TheVariants as of_word
+use Rattle.wiki_talk.specs.declared.requests.ArticleRequest.{ArticleRequest}
+use Rattle.wiki_talk.specs.declared.requests.ArticleRequest.TheVariants as of_article
+use Rattle.wiki_talk.specs.declared.requests.SessionRequest.{SessionRequest}
+use Rattle.wiki_talk.specs.declared.requests.SessionRequest.TheVariants as of_session
+use Rattle.articles.specs.declared.article.Article.{Article}
+use Rattle.lexicon.specs.declared.words.Word.{Word}
+use Rattle.plain_wiki.specs.Sessions.{PlainSession}
+use Rattle.plain_wiki.specs.State.{Stored, State}
+use Rattle.plain_wiki.specs.Places.{word_with, article_named, session_numbered}
+use Rattle.plain_wiki.specs.Knowledge.{Spending}
+use Rattle.plain_wiki.specs.Step.{Does, DoesOnWord, DoesOnArticle, DoesOnSession, Step}
 use Rattle.wiki_core.specs.Journaled.{GivesUtf8, AreUtf8}
-use Rattle.wiki_core.proofs.OneStepLemmas as one
-use Rattle.wiki_core.proofs.WholeStepLemmas as whole
+use Rattle.wiki_core.proofs.NamedLemmas.{some_is}
+use Rattle.wiki_core.proofs.StepLemmas.{IsRefused, IsDone, outcome}
 
 -- ---- terminals
 
@@ -38,71 +48,78 @@ terminal_short g sound token is = each_terminal (λ t. length t ≤ 64) g.termin
 
 -- ---- one step
 
+-- the grammar and the words stay
+pub record KeepsReading (old new : Stored) : Type 0 where
+  pub grammar : new.grammar ≡ old.grammar
+  pub words : new.words ≡ old.words
+
+pub reads_same : (old new : Stored) → new ≡ old → KeepsReading old new
+reads_same old new same = record { grammar = ap (λ (p : Stored). p.grammar) same; words = ap (λ (p : Stored). p.words) same }
+
+reads_state : (old new : State) → new ≡ old → KeepsReading old.stored new.stored
+reads_state old new same = reads_same old.stored new.stored (ap (λ (s : State). s.stored) same)
+
+-- the articles change
+reads_articles : (old new : Stored) (articles : List Article) → new ≡ record old { articles = articles } → KeepsReading old new
+reads_articles old new articles after = record { grammar = ap (λ (p : Stored). p.grammar) after; words = ap (λ (p : Stored). p.words) after }
+
 -- the grammar stays, or it is that of the text that is asked for
 abbrev GoesOver : GrammarParts → Request → GrammarParts → Type 0
-GoesOver old request new = (new ≡ old) ⊎ ((text : List ℕ) × (request ≡ requests.Grammar text) × IsTextOf text new)
+GoesOver old request new = (new ≡ old) ⊎ ((text : List ℕ) × (request ≡ requests.OnWiki (of_wiki.Grammar text)) × IsTextOf text new)
 
-does_go : (old : parts.State) (request : Request) (reply : Reply) (new : parts.State) → store.Does old request reply new
-    → GoesOver old.grammar request new.grammar
-does_go old (requests.Grammar text) reply new x = inr (text, refl, subst (λ (p : parts.State). IsTextOf text p.grammar) (sym x.after) x.is)
-does_go old (requests.Word kind texts) reply new x = inl (ap (λ (p : parts.State). p.grammar) x.after)
-does_go old (requests.Reword text texts) reply new x = inl (ap (λ (p : parts.State). p.grammar) x.after)
-does_go old (requests.Unword text) reply new x = inl (ap (λ (p : parts.State). p.grammar) x.after)
-does_go old (requests.Find text) reply new x = inl (ap (λ (p : parts.State). p.grammar) x.after)
-does_go old requests.Words reply new x = inl (ap (λ (p : parts.State). p.grammar) x.after)
-does_go old (requests.Parse text) reply new x = inl (ap (λ (p : parts.State). p.grammar) x.after)
-does_go old (requests.Add article given text) reply new x = inl (ap (λ (p : parts.State). p.grammar) x.after)
-does_go old (requests.Edit article place text) reply new x = inl (ap (λ (p : parts.State). p.grammar) x.after)
-does_go old (requests.Remove article place) reply new x = inl (ap (λ (p : parts.State). p.grammar) x.after)
-does_go old (requests.Retract article place) reply new x = inl (ap (λ (p : parts.State). p.grammar) x.after)
-does_go old (requests.Reassert article place) reply new x = inl (ap (λ (p : parts.State). p.grammar) x.after)
-does_go old (requests.Read article) reply new x = inl (ap (λ (p : parts.State). p.grammar) x.after)
-does_go old (requests.Axioms article place) reply new x = inl (ap (λ (p : parts.State). p.grammar) x.after)
-does_go old request reply new x = absurd x
+module _ (IsSpent : Spending) (old : State) (reply : Reply) (new : State) where
+  -- requests on articles and on sessions keep what sentences are read by
+  pub article_keeps : (asked : ArticleRequest) (article : Article) → DoesOnArticle IsSpent asked article old reply new → KeepsReading old.stored new.stored
+  article_keeps of_article.Read article x = reads_state old new x.1
+  article_keeps (of_article.Add given text) article x = reads_articles old.stored new.stored _ x.stored.after
+  article_keeps (of_article.Edit place text) article x = reads_articles old.stored new.stored _ x.stored.after
+  article_keeps (of_article.Remove place) article x = reads_articles old.stored new.stored _ x.stored.after
+  article_keeps (of_article.Retract place) article x = reads_articles old.stored new.stored _ x.stored.after
+  article_keeps (of_article.Reassert place) article x = reads_articles old.stored new.stored _ x.stored.after
+  article_keeps (of_article.Axioms place) article x = reads_state old new x.1
+  article_keeps of_article.Open article x = reads_same old.stored new.stored (ap (λ (s : State). s.stored) x.after)
 
-pages_go : (old : parts.State) (request : Request) (reply : Reply) (new : parts.State) → store.Step old request reply new
-    → GoesOver old.grammar request new.grammar
-pages_go old request reply new step = by (one.outcome old request reply new step)
-  where
-    by : one.IsRefused old request reply new ⊎ one.IsDone old request reply new → GoesOver old.grammar request new.grammar
-    by (inl refused) = inl (ap (λ (p : parts.State). p.grammar) refused.3)
-    by (inr done) = does_go old request reply new done.1
+  pub session_keeps : (asked : SessionRequest) (session : PlainSession) → DoesOnSession IsSpent asked session old reply new
+      → KeepsReading old.stored new.stored
+  session_keeps (of_session.Type text) session x = reads_same old.stored new.stored (ap (λ (s : State). s.stored) x.after)
+  session_keeps of_session.Back session x = reads_same old.stored new.stored (ap (λ (s : State). s.stored) x.after)
+  session_keeps of_session.Menu session x = reads_state old new x.1
+  session_keeps of_session.Commit session x = reads_articles old.stored new.stored _ (ap (λ (s : State). s.stored) x.after)
+  session_keeps of_session.Refresh session x = reads_same old.stored new.stored (ap (λ (s : State). s.stored) x.after)
+  session_keeps of_session.Drop session x = reads_same old.stored new.stored (ap (λ (s : State). s.stored) x.after)
 
-session_does : (old : State) (request : Request) (reply : Reply) (new : State) → whole.IsDone old request reply new
-    → new.pages.grammar ≡ old.pages.grammar
-session_does old (requests.Begin article) reply new (free, x) = ap (λ (s : State). s.pages.grammar) x.after
-session_does old (requests.Put session text) reply new (free, x) = ap (λ (s : State). s.pages.grammar) x.after
-session_does old (requests.Back session) reply new (free, x) = ap (λ (s : State). s.pages.grammar) x.after
-session_does old (requests.Menu session) reply new (free, x) = ap (λ (s : State). s.pages.grammar) x.after
-session_does old (requests.Commit session) reply new (free, x) = ap (λ (s : State). s.pages.grammar) x.after
-session_does old (requests.Refresh session) reply new (free, x) = ap (λ (s : State). s.pages.grammar) x.after
-session_does old (requests.Drop session) reply new (free, x) = ap (λ (s : State). s.pages.grammar) x.after
-session_does old request reply new (free, x) = absurd x
+  word_keeps : (asked : WordRequest) (word : Word) → DoesOnWord asked word old reply new → new.stored.grammar ≡ old.stored.grammar
+  word_keeps of_word.Find word x = ap (λ (s : State). s.stored.grammar) x.1
+  word_keeps (of_word.Reword texts) word x = ap (λ (p : Stored). p.grammar) x.stored.after
+  word_keeps of_word.Unword word x = ap (λ (p : Stored). p.grammar) x.stored.after
 
-session_goes : (old : State) (request : Request) (reply : Reply) (new : State) → StepsSession old request reply new
-    → GoesOver old.pages.grammar request new.pages.grammar
-session_goes old request reply new step = by (whole.outcome old request reply new step)
-  where
-    by : whole.IsRefused old request reply new ⊎ whole.IsDone old request reply new → GoesOver old.pages.grammar request new.pages.grammar
-    by (inl refused) = inl (ap (λ (s : State). s.pages.grammar) refused.3)
-    by (inr done) = inl (session_does old request reply new done)
+  does_go : (request : Request) → Does IsSpent old request reply new → GoesOver old.stored.grammar request new.stored.grammar
+  does_go (requests.OnWiki (of_wiki.Word kind texts)) x = inl (ap (λ (p : Stored). p.grammar) x.stored.after)
+  does_go (requests.OnWiki of_wiki.Words) x = inl (ap (λ (s : State). s.stored.grammar) x.1)
+  does_go (requests.OnWiki (of_wiki.Parse text)) x = inl (ap (λ (s : State). s.stored.grammar) x.1)
+  does_go (requests.OnWiki (of_wiki.Grammar text)) x =
+      inr (text, refl, subst (λ (p : Stored). IsTextOf text p.grammar) (sym x.stored.after) x.stored.is)
+  does_go (requests.OnWord form asked) x =
+      let found = some_is (word_with old.stored form) (λ word. DoesOnWord asked word old reply new) x in inl (word_keeps asked found.it found.is)
+  does_go (requests.OnArticle form asked) x =
+      let found = some_is (article_named old.stored form) (λ article. DoesOnArticle IsSpent asked article old reply new) x in
+      inl (article_keeps asked found.it found.is).grammar
+  does_go (requests.OnSession number asked) x =
+      let found = some_is (session_numbered old number) (λ session. DoesOnSession IsSpent asked session old reply new) x in
+      inl (session_keeps asked found.it found.is).grammar
 
-step_goes : (old : State) (request : Request) (reply : Reply) (new : State) → Step old request reply new
-    → GoesOver old.pages.grammar request new.pages.grammar
-step_goes old (requests.Begin article) reply new step = session_goes old (requests.Begin article) reply new step
-step_goes old (requests.Put session text) reply new step = session_goes old (requests.Put session text) reply new step
-step_goes old (requests.Back session) reply new step = session_goes old (requests.Back session) reply new step
-step_goes old (requests.Menu session) reply new step = session_goes old (requests.Menu session) reply new step
-step_goes old (requests.Commit session) reply new step = session_goes old (requests.Commit session) reply new step
-step_goes old (requests.Refresh session) reply new step = session_goes old (requests.Refresh session) reply new step
-step_goes old (requests.Drop session) reply new step = session_goes old (requests.Drop session) reply new step
-step_goes old request reply new step = pages_go old.pages request reply new.pages step.pages
+  step_goes : (request : Request) → Step IsSpent old request reply new → GoesOver old.stored.grammar request new.stored.grammar
+  step_goes request step = by (outcome IsSpent old request reply new step)
+    where
+      by : IsRefused old request reply new ⊎ IsDone IsSpent old request reply new → GoesOver old.stored.grammar request new.stored.grammar
+      by (inl refused) = inl (ap (λ (s : State). s.stored.grammar) refused.3)
+      by (inr done) = does_go request done.1
 
--- terminals stay in UTF-8
-pub stays_utf8 : (old new : State) (reply : Reply) (request : Request) → GivesUtf8 request → AreUtf8 old.pages.grammar.terminals
-    → Step old request reply new → AreUtf8 new.pages.grammar.terminals
-stays_utf8 old new reply request given utf8 step = by (step_goes old request reply new step)
-  where
-    by : GoesOver old.pages.grammar request new.pages.grammar → AreUtf8 new.pages.grammar.terminals
-    by (inl same) = subst (λ (g : GrammarParts). AreUtf8 g.terminals) (sym same) utf8
-    by (inr (text, is, of)) = each_terminal IsUtf8 new.pages.grammar.terminals (text_utf8 text new.pages.grammar (subst GivesUtf8 is given) of)
+  -- terminals stay in UTF-8
+  pub stays_utf8 : (request : Request) → GivesUtf8 request → AreUtf8 old.stored.grammar.terminals → Step IsSpent old request reply new
+      → AreUtf8 new.stored.grammar.terminals
+  stays_utf8 request given utf8 step = by (step_goes request step)
+    where
+      by : GoesOver old.stored.grammar request new.stored.grammar → AreUtf8 new.stored.grammar.terminals
+      by (inl same) = subst (λ (g : GrammarParts). AreUtf8 g.terminals) (sym same) utf8
+      by (inr (text, is, of)) = each_terminal IsUtf8 new.stored.grammar.terminals (text_utf8 text new.stored.grammar (subst GivesUtf8 is given) of)

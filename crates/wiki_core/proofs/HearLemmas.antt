@@ -1,20 +1,21 @@
 -- What a session sees after what it hears is one thing.
-use Rattle.std.proofs.Common.{◌≡◌, ℕ, ◌+◌, ◌-◌, ◌<◌, ◌≤◌, ◌==◌, ◌⊎◌, List, [], ◌∷◌, ◌++◌, length, take, min, Option, Some, None, option_map, sym, ap, subst, ◌∙◌, arith, inl, inr}
+use Rattle.std.proofs.Common.{◌≡◌, ℕ, ◌+◌, ◌-◌, ◌≤◌, ◌⊎◌, List, [], ◌∷◌, ◌++◌, length, take, min, find, Option, Some, None, option_map, sym, ap, subst, ◌∙◌, arith, inl, inr}
 use Rattle.std.proofs.lemmas.List.{length-take}
 use Rattle.std.proofs.lemmas.Option.{same_Some}
-use Rattle.wiki_base.specs.declared.numbers.WordId.{WordId}
 use Rattle.wiki_base.specs.declared.tokens.TheConstants.{MOST_TOKENS}
 use Rattle.codeco_terms.specs.GrammarParts.{GrammarParts}
-use Rattle.lexicon.specs.declared.kinds.Forms.{Forms}
+use Rattle.lexicon.specs.declared.words.Word.{Word}
 use Rattle.codeco_reader.specs.Texts.{IsTextOf}
 use Rattle.codeco_reader.proofs.OneGrammar.{same_grammar}
-use Rattle.lexicon.specs.Words.{Listed, owner, forms_of, with_word, with_forms, without_word, with_terminals}
+use Rattle.lexicon.specs.Words.{Listed, has_form, with_word, with_forms, without_word, with_terminals}
 use Rattle.derivation_trees.specs.Partial.{IsTypeable}
 use Rattle.editor.specs.Editing.{typed, IsInMenu}
 use Rattle.editor.specs.Rebasing.{IsRebased}
 use Rattle.wiki_talk.specs.declared.requests.Request.{Request}
 use Rattle.wiki_talk.specs.declared.requests.Request.TheVariants as requests
-use Rattle.wiki_parts.specs.Words.{forms_given}
+use Rattle.wiki_talk.specs.declared.requests.WikiRequest.TheVariants as of_wiki
+use Rattle.wiki_talk.specs.declared.requests.WordRequest.TheVariants as of_word
+use Rattle.plain_wiki.specs.Words.{forms_given}
 use Rattle.wiki_core.specs.Apart as apart
 use Rattle.wiki_core.proofs.SeenLemmas.{Own, RebasesOwn, ended}
 
@@ -34,20 +35,21 @@ with_words old words = record { grammar = old.grammar; words = words }
 
 -- a request that changes words or the grammar makes this of that
 abbrev pub SharedChange : Shared → Request → Shared → Type 0
-SharedChange old (requests.Word kind forms) new = new ≡ with_words old (with_word old.words (forms_given kind forms))
-SharedChange old (requests.Reword form texts) new =
-    (word : WordId) × (forms : Forms) × (owner old.words.live form ≡ Some word) × (forms_of old.words.live word ≡ Some forms)
-    × (new ≡ with_words old (with_forms old.words word (forms_given forms.kind texts)))
-SharedChange old (requests.Unword form) new =
-    (word : WordId) × (owner old.words.live form ≡ Some word) × (new ≡ with_words old (without_word old.words word))
-SharedChange old (requests.Grammar text) new =
+SharedChange old (requests.OnWiki (of_wiki.Word kind forms)) new = new ≡ with_words old (with_word old.words (forms_given kind forms))
+SharedChange old (requests.OnWord form (of_word.Reword texts)) new =
+    (word : Word) × (find (has_form form) old.words.live ≡ Some word)
+    × (new ≡ with_words old (with_forms old.words word.id (forms_given word.forms.kind texts)))
+SharedChange old (requests.OnWord form of_word.Unword) new =
+    (word : Word) × (find (has_form form) old.words.live ≡ Some word) × (new ≡ with_words old (without_word old.words word.id))
+SharedChange old (requests.OnWiki (of_wiki.Grammar text)) new =
     (g : GrammarParts) × IsTextOf text g × (new ≡ record { grammar = g; words = with_terminals old.words g.terminals })
 SharedChange old request new = ⊥
 
 -- what a session sees of itself by a request that changes words or the grammar
 abbrev pub OwnChanges : Shared → Request → Shared → Option Own → Option Own → Type 0
-OwnChanges old (requests.Unword form) new was is =
-    (word : WordId) × (mid : Option Own) × (owner old.words.live form ≡ Some word) × RebasesOwn new.grammar new.words was mid × (is ≡ ended word mid)
+OwnChanges old (requests.OnWord form of_word.Unword) new was is =
+    (word : Word) × (mid : Option Own) × (find (has_form form) old.words.live ≡ Some word) × RebasesOwn new.grammar new.words was mid
+    × (is ≡ ended word.id mid)
 OwnChanges old request new was is = RebasesOwn new.grammar new.words was is
 
 -- a text isn't typed behind tokens: there are too many, or it isn't in their menu
@@ -72,7 +74,7 @@ own_emptied own = record { article = own.article; tokens = [] }
 -- what the session sees after what it hears
 abbrev pub Goes : Seen → apart.Heard → Seen → Type 0
 Goes old (apart.opened form) new = (new.shared ≡ old.shared)
-    × ((word : WordId) × (owner old.shared.words.live form ≡ Some word) × (new.own ≡ Some (record { article = word; tokens = [] })))
+    × ((word : Word) × (find (has_form form) old.shared.words.live ≡ Some word) × (new.own ≡ Some (record { article = word.id; tokens = [] })))
 Goes old (apart.typed text) new = (new.shared ≡ old.shared) × OwnTypes old.shared.grammar old.shared.words text old.own new.own
 Goes old apart.stepped_back new = (new.shared ≡ old.shared) × (new.own ≡ option_map own_back old.own)
 Goes old apart.committed new = (new.shared ≡ old.shared) × (new.own ≡ option_map own_emptied old.own)
@@ -84,9 +86,9 @@ seen_is a b same_shared same_own = ap (λ (shared : Shared). record { shared = s
     ∙ ap (λ (own : Option Own). record { shared = b.shared; own = own }) same_own
 
 -- rebased tokens are one
-rebased_one : (g : GrammarParts) (words : Listed) (tokens one other : List (List ℕ)) → IsRebased g words tokens one → IsRebased g words tokens other
+pub rebased_tokens : (g : GrammarParts) (words : Listed) (tokens one other : List (List ℕ)) → IsRebased g words tokens one → IsRebased g words tokens other
     → other ≡ one
-rebased_one g words tokens one other is its =
+rebased_tokens g words tokens one other is its =
     let within = fits one is.prefix in
     let its_within = fits other its.prefix in
     let below = its.longest (length one) within (typeable_again one is) in
@@ -105,19 +107,16 @@ own_rebased_one : (g : GrammarParts) (words : Listed) (was one other : Option Ow
 own_rebased_one g words None one other is its = its ∙ sym is
 own_rebased_one g words (Some old) one other (tokens, rebased, is) (its_tokens, its_rebased, its) =
     its ∙ ap (λ (ts : List (List ℕ)). Some (record { article = old.article; tokens = ts }))
-    (rebased_one g words old.tokens tokens its_tokens rebased its_rebased) ∙ sym is
+    (rebased_tokens g words old.tokens tokens its_tokens rebased its_rebased) ∙ sym is
 
 shared_one : (old : Shared) (request : Request) (one other : Shared) → SharedChange old request one → SharedChange old request other → other ≡ one
-shared_one old (requests.Word kind forms) one other is its = its ∙ sym is
-shared_one old (requests.Reword form texts) one other (word, forms, named, of_word, is) (its_word, its_forms, its_named, its_of_word, its) =
-    let same_word : its_word ≡ word = same_Some its_word word (sym its_named ∙ named) in
-    let same_forms : its_forms ≡ forms = same_Some its_forms forms (sym its_of_word ∙ ap (forms_of old.words.live) same_word ∙ of_word) in
-    its ∙ ap (λ (w : WordId). with_words old (with_forms old.words w (forms_given its_forms.kind texts))) same_word
-    ∙ ap (λ (f : Forms). with_words old (with_forms old.words word (forms_given f.kind texts))) same_forms ∙ sym is
-shared_one old (requests.Unword form) one other (word, named, is) (its_word, its_named, its) =
-    let same_word : its_word ≡ word = same_Some its_word word (sym its_named ∙ named) in
-    its ∙ ap (λ (w : WordId). with_words old (without_word old.words w)) same_word ∙ sym is
-shared_one old (requests.Grammar text) one other (g, of_text, is) (its_g, its_of_text, its) =
+shared_one old (requests.OnWiki (of_wiki.Word kind forms)) one other is its = its ∙ sym is
+shared_one old (requests.OnWord form (of_word.Reword texts)) one other (word, named, is) (its_word, its_named, its) =
+    its ∙ ap (λ (w : Word). with_words old (with_forms old.words w.id (forms_given w.forms.kind texts))) (same_Some its_word word (sym its_named ∙ named))
+    ∙ sym is
+shared_one old (requests.OnWord form of_word.Unword) one other (word, named, is) (its_word, its_named, its) =
+    its ∙ ap (λ (w : Word). with_words old (without_word old.words w.id)) (same_Some its_word word (sym its_named ∙ named)) ∙ sym is
+shared_one old (requests.OnWiki (of_wiki.Grammar text)) one other (g, of_text, is) (its_g, its_of_text, its) =
     let same : its_g ≡ g = same_grammar text its_g g its_of_text of_text in
     its ∙ ap (λ (h : GrammarParts). record { grammar = h; words = with_terminals old.words h.terminals }) same ∙ sym is
 shared_one old request one other is its = absurd is
@@ -125,10 +124,10 @@ shared_one old request one other is its = absurd is
 -- where what is shared changes to the same, the session sees the same of itself
 own_one : (old : Shared) (request : Request) (new : Shared) (was one other : Option Own) → OwnChanges old request new was one
     → OwnChanges old request new was other → other ≡ one
-own_one old (requests.Unword form) new was one other (word, mid, named, rebased, is) (its_word, its_mid, its_named, its_rebased, its) =
+own_one old (requests.OnWord form of_word.Unword) new was one other (word, mid, named, rebased, is) (its_word, its_mid, its_named, its_rebased, its) =
     let same_word : its_word ≡ word = same_Some its_word word (sym its_named ∙ named) in
     let same_mid = own_rebased_one new.grammar new.words was mid its_mid rebased its_rebased in
-    its ∙ ap (λ (w : WordId). ended w its_mid) same_word ∙ ap (ended word) same_mid ∙ sym is
+    its ∙ ap (λ (w : Word). ended w.id its_mid) same_word ∙ ap (ended word.id) same_mid ∙ sym is
 own_one old request new was one other is its = own_rebased_one new.grammar new.words was one other is its
 
 typed_one : (g : GrammarParts) (words : Listed) (text : List ℕ) (was one other : Option Own) → OwnTypes g words text was one → OwnTypes g words text was other
@@ -143,7 +142,7 @@ typed_one g words text (Some own) one other (inr (free, is)) (inr (its_free, its
 pub goes_one : (old : Seen) (heard : apart.Heard) (one other : Seen) → Goes old heard one → Goes old heard other → other ≡ one
 goes_one old (apart.opened form) one other (same, (word, named, is)) (its_same, (its_word, its_named, its)) =
     let same_word : its_word ≡ word = same_Some its_word word (sym its_named ∙ named) in
-    seen_is other one (its_same ∙ sym same) (its ∙ ap (λ (w : WordId). Some (record { article = w; tokens = [] })) same_word ∙ sym is)
+    seen_is other one (its_same ∙ sym same) (its ∙ ap (λ (w : Word). Some (record { article = w.id; tokens = [] })) same_word ∙ sym is)
 goes_one old (apart.typed text) one other is its =
     seen_is other one (its.0 ∙ sym is.0) (typed_one old.shared.grammar old.shared.words text old.own one.own other.own is.1 its.1)
 goes_one old apart.stepped_back one other is its = seen_is other one (its.0 ∙ sym is.0) (its.1 ∙ sym is.1)

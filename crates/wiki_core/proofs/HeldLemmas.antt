@@ -17,16 +17,17 @@ use Rattle.editor.specs.declared.faults.TypeFault.{TypeFault}
 use Rattle.articles.specs.declared.article.Article.{Article}
 use Rattle.articles.specs.Articles.{article_of, without_article as without}
 use Rattle.sessions.specs.declared.session.Session.{Session}
-use Rattle.sessions.specs.Sessions.{PlainSession, plain, all_plain, session_of, new_session, with_change, with_tokens, without_session, without_article, is_on, has_number, HasSession, AreSessions, AreRebased, IsRebasedSession, AreKept}
-use Rattle.wiki_parts.specs.State as parts
+use Rattle.plain_wiki.specs.Sessions.{PlainSession, session_of, new_session, with_change, with_tokens, without_session, without_article, is_on, has_number, HasSession, AreRebased, IsRebasedSession}
+use Rattle.sessions.specs.Sessions.{plain, all_plain, AreSessions, AreKept}
+use Rattle.plain_wiki.specs.State.{Stored}
 use Rattle.logic_terms.specs.Interpretation.{Interpretation}
 use Rattle.derivation_trees.specs.Partial.{IsTypeable}
 use Rattle.sessions.proofs.KeepingLaws.{kept_typeable}
 use Rattle.wiki_parts.specs.Holding as holding
 use Rattle.history.specs.declared.kept.Kept.{Kept}
 use Rattle.wiki_store.specs.PuttingBack.{put_back}
-use Rattle.wiki_core.specs.State.{State, IsOnArticle, AreInOrder}
-use Rattle.wiki_core.specs.Holding.{IsKeptSession, IsKept as IsKeptWiki}
+use Rattle.plain_wiki.specs.State.{State}
+use Rattle.wiki_core.specs.Holding.{IsOnArticle, AreInOrder, IsKeptSession, IsKept as IsKeptWiki}
 use Rattle.wiki_core.specs.Keeping.{AreHeld}
 use Rattle.wiki_core.proofs.KeyLaws.{changed_at, find_changed, found_has, only_one, all_changed, all_filtered, pairs_head}
 use Rattle.wiki_core.proofs.PagesLemmas.{GoOn, KeepsWords, keeps_changed, go_on_ended}
@@ -46,7 +47,7 @@ pub record Fits (articles : List Article) (last : ℕ) (session : PlainSession) 
   pub numbered : session.number.0 ≤ last
 
 -- what is held is that the editors keep the readings, and that each session fits
-pub fits_each : (pages : parts.State) (sessions : List Session) (last : ℕ) → AreHeld pages sessions last → All (Fits pages.articles last) (all_plain sessions)
+pub fits_each : (pages : Stored) (sessions : List Session) (last : ℕ) → AreHeld pages sessions last → All (Fits pages.articles last) (all_plain sessions)
 fits_each pages sessions last held = together (all_plain sessions) held.on held.numbered
   where
     together : (list : List PlainSession) → All (IsOnArticle pages.articles) list
@@ -56,7 +57,7 @@ fits_each pages sessions last held = together (all_plain sessions) held.on held.
         (record { on = All-head (IsOnArticle pages.articles) s list on; numbered = All-head (λ (t : PlainSession). t.number.0 ≤ last) s list numbered })
         (together list (All-tail (IsOnArticle pages.articles) s list on) (All-tail (λ (t : PlainSession). t.number.0 ≤ last) s list numbered))
 
-pub held_by : (pages : parts.State) (sessions : List Session) (last : ℕ) → AreKept pages.grammar pages.words sessions
+pub held_by : (pages : Stored) (sessions : List Session) (last : ℕ) → AreKept pages.grammar pages.words sessions
     → All (Fits pages.articles last) (all_plain sessions) → AreHeld pages sessions last
 held_by pages sessions last kept fit = record {
   kept = kept;
@@ -65,7 +66,7 @@ held_by pages sessions last kept fit = record {
 }
 
 -- where no words change, and each article goes on
-pub held_over : (old new : parts.State) (sessions : List Session) (last : ℕ) → AreHeld old sessions last → KeepsWords old new → AreHeld new sessions last
+pub held_over : (old new : Stored) (sessions : List Session) (last : ℕ) → AreHeld old sessions last → KeepsWords old new → AreHeld new sessions last
 held_over old new sessions last held keeps = held_by new sessions last
     (let to_grammar = subst (λ (g : GrammarParts). AreKept g old.words sessions) (sym keeps.grammar) held.kept in
     subst (λ (words : Listed). AreKept new.grammar words sessions) (sym keeps.words) to_grammar)
@@ -82,7 +83,7 @@ held_put_back old new kept sessions last false held done refused =
     subst (λ (h : holding.Holding). AreHeld h.state sessions last) (sym (refused refl)) held
 
 -- where a session is opened
-pub held_opened : (pages : parts.State) (old new : List Session) (last : ℕ) (number : SessionId) (word : WordId) (revision : Rev) (article : Article)
+pub held_opened : (pages : Stored) (old new : List Session) (last : ℕ) (number : SessionId) (word : WordId) (revision : Rev) (article : Article)
     → AreHeld pages old last → number.0 ≡ last + 1 → article_of pages.articles word ≡ Some article → article.revision ≡ revision
     → all_plain new ≡ all_plain old ++ new_session number word revision ∷ [] → AreKept pages.grammar pages.words new → AreHeld pages new number.0
 held_opened pages old new last number word revision article held is_next there at opened kept = held_by pages new number.0 kept
@@ -99,7 +100,7 @@ held_opened pages old new last number word revision article held is_next there a
     fresh = record { on = record { article = article; there = there; seen = omega (arith, same) }; numbered = omega arith }
 
 -- where one session changes, and each article goes on
-pub held_changed : (pages after : parts.State) (old new : List Session) (last : ℕ) (number : SessionId) (change : PlainSession → PlainSession)
+pub held_changed : (pages after : Stored) (old new : List Session) (last : ℕ) (number : SessionId) (change : PlainSession → PlainSession)
     (found : PlainSession)
     → AreHeld pages old last → AreInOrder (all_plain old) → session_of (all_plain old) number ≡ Some found → GoOn pages.articles after.articles
     → AreKept after.grammar after.words new → all_plain new ≡ with_change (all_plain old) number change → Fits after.articles last (change found)
@@ -111,7 +112,7 @@ held_changed pages after old new last number change found held in_order is_found
     (only_one (λ (s : PlainSession). s.number.0) number.0 (all_plain old) in_order found is_found)))
 
 -- where a session ends
-pub held_without : (pages : parts.State) (old new : List Session) (last : ℕ) (number : SessionId) → AreHeld pages old last
+pub held_without : (pages : Stored) (old new : List Session) (last : ℕ) (number : SessionId) → AreHeld pages old last
     → AreKept pages.grammar pages.words new → all_plain new ≡ without_session (all_plain old) number → AreHeld pages new last
 held_without pages old new last number held kept ended = held_by pages new last kept
     (subst (All (Fits pages.articles last)) (sym ended)
@@ -137,19 +138,19 @@ fits_rebased g words articles last (o ∷ old) (n ∷ new) rebased fit =
         }
 
 -- where the wiki gets another grammar and other words
-pub held_regrounded : (pages : parts.State) (g : GrammarParts) (words : Listed) (old new : List Session) (last : ℕ) → AreHeld pages old last
+pub held_regrounded : (pages : Stored) (g : GrammarParts) (words : Listed) (old new : List Session) (last : ℕ) → AreHeld pages old last
     → AreKept g words new → AreRebased g words (all_plain old) (all_plain new) → AreHeld (record pages { grammar = g; words = words }) new last
 held_regrounded pages g words old new last held kept rebased =
     held_by (record pages { grammar = g; words = words }) new last kept
     (fits_rebased g words pages.articles last (all_plain old) (all_plain new) rebased (fits_each pages old last held))
 
 -- where words get other forms
-pub held_rebased : (pages : parts.State) (words : Listed) (old new : List Session) (last : ℕ) → AreHeld pages old last → AreKept pages.grammar words new
+pub held_rebased : (pages : Stored) (words : Listed) (old new : List Session) (last : ℕ) → AreHeld pages old last → AreKept pages.grammar words new
     → AreRebased pages.grammar words (all_plain old) (all_plain new) → AreHeld (record pages { words = words }) new last
 held_rebased pages words = held_regrounded pages pages.grammar words
 
 -- where a word goes with its article, and the sessions on it end
-pub held_ended : (pages : parts.State) (words : Listed) (word : WordId) (old new : List Session) (rebased : List PlainSession) (last : ℕ)
+pub held_ended : (pages : Stored) (words : Listed) (word : WordId) (old new : List Session) (rebased : List PlainSession) (last : ℕ)
     → AreHeld pages old last
     → AreKept pages.grammar words new → AreRebased pages.grammar words (all_plain old) rebased → all_plain new ≡ without_article rebased word
     → AreHeld (record pages { words = words; articles = without pages.articles word }) new last
@@ -172,27 +173,27 @@ plain_in_order (s ∷ sessions) in_order =
     (plain_in_order sessions (AllPairs-tail (λ (session later : Session). session.number.0 < later.number.0) s sessions in_order))
 
 -- what the program keeps of each session is what the wiki promises of it
-kept_each : (state : State) (list : List PlainSession) → All (λ session. IsTypeable state.pages.grammar state.pages.words session.tokens) list
-    → All (λ session. length session.tokens ≤ MOST_TOKENS) list → All (IsOnArticle state.pages.articles) list → All (IsKeptSession state) list
+kept_each : (state : State) (list : List PlainSession) → All (λ session. IsTypeable state.stored.grammar state.stored.words session.tokens) list
+    → All (λ session. length session.tokens ≤ MOST_TOKENS) list → All (IsOnArticle state.stored.articles) list → All (IsKeptSession state) list
 kept_each state [] typeable short on = All-nil (IsKeptSession state)
 kept_each state (s ∷ list) typeable short on =
     All-cons (IsKeptSession state) s list
     (record {
-      typeable = All-head (λ (t : PlainSession). IsTypeable state.pages.grammar state.pages.words t.tokens) s list typeable;
+      typeable = All-head (λ (t : PlainSession). IsTypeable state.stored.grammar state.stored.words t.tokens) s list typeable;
       short = All-head (λ (t : PlainSession). length t.tokens ≤ MOST_TOKENS) s list short;
-      on = All-head (IsOnArticle state.pages.articles) s list on;
+      on = All-head (IsOnArticle state.stored.articles) s list on;
     })
-    (kept_each state list (All-tail (λ (t : PlainSession). IsTypeable state.pages.grammar state.pages.words t.tokens) s list typeable)
-    (All-tail (λ (t : PlainSession). length t.tokens ≤ MOST_TOKENS) s list short) (All-tail (IsOnArticle state.pages.articles) s list on))
+    (kept_each state list (All-tail (λ (t : PlainSession). IsTypeable state.stored.grammar state.stored.words t.tokens) s list typeable)
+    (All-tail (λ (t : PlainSession). length t.tokens ≤ MOST_TOKENS) s list short) (All-tail (IsOnArticle state.stored.articles) s list on))
 
 -- what the program keeps is what the wiki promises
-pub is_kept : (pages : parts.State) (interpretation : Interpretation) (sessions : List Session) (last : ℕ)
-    → holding.IsKept (record { state = pages; interpretation = interpretation }) → AreSessions sessions → AreHeld pages sessions last
-    → IsKeptWiki (record { state = record { pages = pages; sessions = all_plain sessions; last = last }; interpretation = interpretation })
-is_kept pages interpretation sessions last pages_kept are held = record {
-  pages = pages_kept;
+pub is_kept : (pages : Stored) (budget : ℕ) (interpretation : Interpretation) (sessions : List Session) (last : ℕ)
+    → holding.IsKept (record { state = pages; budget = budget; interpretation = interpretation }) → AreSessions sessions → AreHeld pages sessions last
+    → IsKeptWiki (record { state = record { stored = pages; sessions = all_plain sessions; last = last }; budget = budget; interpretation = interpretation })
+is_kept pages budget interpretation sessions last pages_kept are held = record {
+  stored = pages_kept;
   sessions =
-      kept_each (record { pages = pages; sessions = all_plain sessions; last = last }) (all_plain sessions)
+      kept_each (record { stored = pages; sessions = all_plain sessions; last = last }) (all_plain sessions)
       (kept_typeable pages.grammar pages.words sessions are held.kept)
       (All-map (λ (t : PlainSession). length t.tokens ≤ MOST_TOKENS) plain sessions (λ k d bound. (are.edited k d bound).few)) held.on;
   in_order = plain_in_order sessions are.in_order;
@@ -201,7 +202,7 @@ is_kept pages interpretation sessions last pages_kept are held = record {
 }
 
 -- where one session's tokens change, whichever they are
-pub held_tokens : (pages : parts.State) (old new : List Session) (last : ℕ) (number : SessionId) (change : List (List ℕ) → List (List ℕ))
+pub held_tokens : (pages : Stored) (old new : List Session) (last : ℕ) (number : SessionId) (change : List (List ℕ) → List (List ℕ))
     → AreHeld pages old last
     → AreKept pages.grammar pages.words new → all_plain new ≡ with_change (all_plain old) number (with_tokens change) → AreHeld pages new last
 held_tokens pages old new last number change held kept is_changed = held_by pages new last kept
@@ -218,7 +219,7 @@ held_tokens pages old new last number change held kept is_changed = held_by page
         (by_test s (s.number.0 == number.0) (All-head (Fits pages.articles last) s list fit)) (each list (All-tail (Fits pages.articles last) s list fit))
 
 -- where a text is typed or not
-pub held_typed : (pages : parts.State) (old new : List Session) (last : ℕ) (number : SessionId) (change : List (List ℕ) → List (List ℕ))
+pub held_typed : (pages : Stored) (old new : List Session) (last : ℕ) (number : SessionId) (change : List (List ℕ) → List (List ℕ))
     (result : Result (Unit {0}) TypeFault) → AreHeld pages old last
     → AreKept pages.grammar pages.words new → OnOk result (all_plain new ≡ with_change (all_plain old) number (with_tokens change)) → OnErr result (new ≡ old)
     → AreHeld pages new last
@@ -226,7 +227,7 @@ held_typed pages old new last number change (Ok done) held kept is_changed same 
 held_typed pages old new last number change (Err fault) held kept is_changed same = subst (λ (list : List Session). AreHeld pages list last) (sym same) held
 
 -- where a token is dropped or there was none
-pub held_back : {P : Type 0} (pages : parts.State) (old new : List Session) (last : ℕ) (number : SessionId) (change : List (List ℕ) → List (List ℕ))
+pub held_back : {P : Type 0} (pages : Stored) (old new : List Session) (last : ℕ) (number : SessionId) (change : List (List ℕ) → List (List ℕ))
     (result : Bool) → AreHeld pages old last
     → AreKept pages.grammar pages.words new → (result ≡ true → all_plain new ≡ with_change (all_plain old) number (with_tokens change))
     → (result ≡ false → P × (new ≡ old)) → AreHeld pages new last
@@ -234,7 +235,7 @@ held_back pages old new last number change true held kept is_changed same = held
 held_back pages old new last number change false held kept is_changed same = subst (λ (list : List Session). AreHeld pages list last) (sym (same refl).1) held
 
 -- the article that a session is on is there
-pub on_there : (pages : parts.State) (sessions : List Session) (last : ℕ) (number : SessionId) (session : PlainSession) → AreHeld pages sessions last
+pub on_there : (pages : Stored) (sessions : List Session) (last : ℕ) (number : SessionId) (session : PlainSession) → AreHeld pages sessions last
     → session_of (all_plain sessions) number ≡ Some session
     → Fits pages.articles last session
 on_there pages sessions last number session held found =

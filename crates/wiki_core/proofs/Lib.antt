@@ -1,5 +1,6 @@
 pub mod AgainLemmas
 pub mod ApartLemmas
+pub mod AskedLemmas
 pub mod BuiltInLemmas
 pub mod CommitLemmas
 pub mod FormLemmas
@@ -11,6 +12,7 @@ pub mod KeyLaws
 pub mod KnownTokens
 pub mod LineLemmas
 pub mod MenuLemmas
+pub mod NamedLemmas
 pub mod OneStepLemmas
 pub mod PagesLemmas
 pub mod PartLemmas
@@ -18,7 +20,8 @@ pub mod ReadableLemmas
 pub mod ReadyLemmas
 pub mod RunLemmas
 pub mod SeenLemmas
+pub mod SessionLemmas
 pub mod StandsLemmas
+pub mod StepLemmas
 pub mod ToldLemmas
-pub mod WholeStepLemmas
 pub mod WordLemmas

@@ -1,5 +1,5 @@
 -- Changes fit short lines, however long the texts were that were sent.
-use Rattle.std.proofs.Common.{◌≡◌, ℕ, ◌+◌, ◌<◌, ◌≤◌, ◌==◌, Bool, true, false, cond, List, [], ◌∷◌, length, ◌⊎◌, inl, inr, Option, Some, None, is_some, All, refl, sym, ap, subst, ◌∙◌, arith}
+use Rattle.std.proofs.Common.{◌≡◌, ℕ, ◌+◌, ◌<◌, ◌≤◌, ◌==◌, Bool, true, false, cond, List, [], ◌∷◌, length, ◌⊎◌, inl, inr, Option, Some, None, is_some, option_map, All, refl, sym, ap, subst, ◌∙◌, arith}
 use Rattle.std.specs.Prelude.{if◌then◌else◌}
 use Rattle.std.specs.Option.{option_or}
 use Rattle.std.specs.List.{position_from}
@@ -7,7 +7,6 @@ use Rattle.std.specs.Str.{IsUtf8}
 use Rattle.std.proofs.lemmas.Bool.{eqb-true, cases_lt}
 use Rattle.std.proofs.lemmas.List.Elements.{All-nil, All-cons, All-head, All-tail, All-append}
 use Rattle.std.proofs.lemmas.Option.{none-some}
-use Rattle.wiki_base.specs.declared.numbers.WordId.{WordId}
 use Rattle.wiki_base.specs.declared.text.BadText.{BadText}
 use Rattle.wiki_base.specs.Text.{fault_of}
 use Rattle.wiki_base.proofs.OptionLaws.{option_map-none, option_or-none}
@@ -16,6 +15,7 @@ use Rattle.codeco_checked.specs.Sound.{IsSound}
 use Rattle.lexicon.specs.declared.kinds.Kind.{Kind}
 use Rattle.lexicon.specs.declared.kinds.Kind.TheVariants.{Noun, Verb}
 use Rattle.lexicon.specs.declared.suggest.FormFault.TheVariants as form_faults
+use Rattle.lexicon.specs.declared.words.Word.{Word}
 use Rattle.lexicon.specs.Kinds.{form_count}
 use Rattle.lexicon.specs.Suggest.{form_fault, told}
 use Rattle.lexicon.specs.Words.{Listed, add_refusal, reword_refusal, owner}
@@ -24,32 +24,44 @@ use Rattle.derivation_trees.specs.Cutting.{shown}
 use Rattle.derivation_trees.specs.Sentences.{IsSentence}
 use Rattle.derivations.proofs.GrowLemmas.{Each}
 use Rattle.wiki_talk.specs.declared.refusals.Refusal.{Refusal}
-use Rattle.wiki_talk.specs.declared.refusals.Refusal.TheVariants.{BadForm}
-use Rattle.wiki_talk.specs.declared.statuses.Status.TheVariants.{Asserted}
+use Rattle.wiki_talk.specs.declared.refusals.Refusal.TheVariants.{BadForm, NoWord}
+use Rattle.wiki_talk.specs.declared.statuses.Status.TheVariants.{Asserted, Retracted}
 use Rattle.wiki_talk.specs.declared.replies.Reply.{Reply}
+use Rattle.wiki_talk.specs.declared.replies.Reply.TheVariants as replies
 use Rattle.wiki_talk.specs.declared.requests.Request.{Request}
 use Rattle.wiki_talk.specs.declared.requests.Request.TheVariants as requests
+use Rattle.wiki_talk.specs.declared.requests.WikiRequest.{WikiRequest}
+use Rattle.wiki_talk.specs.declared.requests.WikiRequest.TheVariants as of_wiki
+use Rattle.wiki_talk.specs.declared.requests.WordRequest.{WordRequest}
+use Rattle.wiki_talk.specs.declared.requests.WordRequest.TheVariants as of_word
+use Rattle.wiki_talk.specs.declared.requests.ArticleRequest.{ArticleRequest}
+use Rattle.wiki_talk.specs.declared.requests.ArticleRequest.TheVariants as of_article
+use Rattle.wiki_talk.specs.declared.requests.SessionRequest.{SessionRequest}
+use Rattle.wiki_talk.specs.declared.requests.SessionRequest.TheVariants as of_session
 use Rattle.wiki_talk.specs.declared.limits.Limit.TheVariants as limits
 use Rattle.wiki_talk.specs.Turns.{Exchange, answered, no_request, Turns}
-use Rattle.wiki_parts.specs.State as parts
-use Rattle.wiki_parts.specs.Words.{bad_text, bad_count, number_of, full_at, lexicon_refusal, forms_given, word_refusal}
+use Rattle.articles.specs.declared.article.Article.{Article}
+use Rattle.plain_wiki.specs.Sessions.{PlainSession}
+use Rattle.plain_wiki.specs.State.{Stored, State, first_state}
+use Rattle.plain_wiki.specs.Words.{bad_text, bad_count, number_of, full_at, lexicon_refusal, forms_given, word_refusal}
+use Rattle.plain_wiki.specs.Places.{word_with, article_named, session_numbered}
+use Rattle.plain_wiki.specs.Parsing.{tokens_of}
+use Rattle.plain_wiki.specs.Knowledge.{Spending}
+use Rattle.plain_wiki.specs.Causes.{NoneOf, has_no_place, is_past_end, has_no_room, is_at_last_revision}
+use Rattle.plain_wiki.specs.Against.{against_wiki, against_word, against_article, IsFree}
+use Rattle.plain_wiki.specs.Doing.{with_inserted, with_replaced, with_appended, place_for}
+use Rattle.plain_wiki.specs.Step.{DoesOnWiki, DoesOnWord, DoesOnArticle, DoesOnSession, Does, Step}
 use Rattle.wiki_parts.specs.Faults.{IsAbsent}
-use Rattle.wiki_parts.specs.Parsing.{tokens_of}
-use Rattle.wiki_parts.specs.Refusing.{NamesNoWord, HasNoSentenceAt, IsPastEnd, IsFullOfSentences, HasTooManyTokens, IsAtLastRevision, HasNoDerivation, reword_cause}
-use Rattle.wiki_store.specs.Step as store
-use Rattle.wiki_store.specs.Step.{with_inserted, with_replaced, sentence_with}
-use Rattle.wiki_store.specs.Appending.{with_appended}
-use Rattle.wiki_core.specs.State.{State, first_state}
-use Rattle.wiki_core.specs.Step.{Step, StepsSession}
+use Rattle.wiki_parts.specs.Spending.{IsCutOff}
 use Rattle.wiki_core.specs.Journaled.{changes_by, changes_of, asked_of, GivesUtf8, GivesUnraised, NoneIsRaised, AreUtf8, HasShortPlace, IsPlainForm, ArePlainForms, IsPlainSentence, HasPlainTexts, FitsLine, ChangesFitLines}
+use Rattle.wiki_core.proofs.NamedLemmas.{some_is, named_word}
+use Rattle.wiki_core.proofs.StepLemmas.{IsRefused, IsDone, outcome}
 use Rattle.wiki_core.proofs.FormLemmas.{short_text}
 use Rattle.wiki_core.proofs.GrammarLemmas.{stays_utf8}
 use Rattle.wiki_core.proofs.ReadableLemmas.{canonical_owner}
 use Rattle.wiki_core.proofs.ReadyLemmas.{AreReady, form_there, shown_short, shown_utf8}
-use Rattle.wiki_core.proofs.OneStepLemmas as one
-use Rattle.wiki_core.proofs.WholeStepLemmas as whole
-use Rattle.wiki_core.proofs.AgainLemmas.{session_short, status_sentence, free_third, free_fourth}
-use Rattle.wiki_core.proofs.StandsLemmas.{IsReady, stays_ready, first_ready, none_told, not_bad_reword}
+use Rattle.wiki_core.proofs.AgainLemmas.{session_short, status_sentence, showing, sentence_of, has_too_many, is_no_sentence, free_second, free_third, free_of_it}
+use Rattle.wiki_core.proofs.StandsLemmas.{IsReady, stays_ready, first_ready, none_told, rewordable}
 
 -- ---- forms that are given
 
@@ -92,131 +104,145 @@ word_given words kind texts none utf8 = given_plain kind texts (lexicon_refusal 
 -- ---- one step
 
 -- a form of a live word
-named_plain : (old : parts.State) (form : List ℕ) (word : WordId) → AreReady old.grammar old.words → owner old.words.live form ≡ Some word → IsPlainForm form
-named_plain old form word ready named = let is = form_there old.grammar old.words ready form word named in (is.utf8, is.short)
+form_plain : (old : Stored) (form : List ℕ) (word : Word) → AreReady old.grammar old.words → word_with old form ≡ Some word → IsPlainForm form
+form_plain old form word ready named =
+    let is = form_there old.grammar old.words ready form word.id (ap (option_map (λ (w : Word). w.id)) named) in (is.utf8, is.short)
 
-few_tokens : (old : parts.State) (text : List ℕ) → IsAbsent (HasTooManyTokens old text) → length (tokens_of old text) ≤ 40
-few_tokens old text free = by (cases_lt 40 (length (tokens_of old text)))
+article_plain : (old : Stored) (form : List ℕ) (article : Article) → AreReady old.grammar old.words → article_named old form ≡ Some article → IsPlainForm form
+article_plain old form article ready named = let word = named_word old form article named in form_plain old form word.it ready word.named
+
+few_tokens : (tokens : List (List ℕ)) → IsAbsent (has_too_many tokens) → length tokens ≤ 40
+few_tokens tokens free = by (cases_lt 40 (length tokens))
   where
-    by : (40 < length (tokens_of old text)) ⊎ (length (tokens_of old text) ≤ 40) → length (tokens_of old text) ≤ 40
-    by (inl many) = absurd (free (full_at limits.Tokens) (record { many = many; told = refl }))
+    by : (40 < length tokens) ⊎ (length tokens ≤ 40) → length tokens ≤ 40
+    by (inl many) = absurd (free (full_at limits.Tokens) (many, refl))
     by (inr few) = few
 
-sentence_plain : (old : parts.State) → AreReady old.grammar old.words → AreUtf8 old.grammar.terminals → (tokens : List (List ℕ)) → length tokens ≤ 40
+sentence_plain : (old : Stored) → AreReady old.grammar old.words → AreUtf8 old.grammar.terminals → (tokens : List (List ℕ)) → length tokens ≤ 40
     → IsSentence old.grammar old.words tokens → IsPlainSentence (shown old.grammar.terminals tokens)
 sentence_plain old ready terminals tokens few sentence =
     let long = shown_short old.grammar old.words ready tokens sentence in
     (shown_utf8 old.grammar old.words ready terminals tokens sentence, omega (arith, long, few))
 
 -- the place doesn't hang on the text
-same_place : (article : List ℕ) (given : Option ℕ) (text other : List ℕ) → HasShortPlace (requests.Add article given text)
-    → HasShortPlace (requests.Add article given other)
+same_place : (article : List ℕ) (given : Option ℕ) (text other : List ℕ) → HasShortPlace (requests.OnArticle article (of_article.Add given text))
+    → HasShortPlace (requests.OnArticle article (of_article.Add given other))
 same_place article None text other place = tt
 same_place article (Some at) text other place = place
 
--- a change of these parts
-fits : (change : Request) → HasPlainTexts change → HasShortPlace change → Each FitsLine (change ∷ [])
-fits change texts place = ((texts, place), tt)
+module _ (IsSpent : Spending) (old : State) (ready : IsReady old) (terminals : AreUtf8 old.stored.grammar.terminals) (reply : Reply) (new : State) where
+  -- what is told of a step that has no change
+  no_change : (request : Request) (fixed : Reply) → reply ≡ fixed → changes_by request fixed ≡ [] → Each FitsLine (changes_by request reply)
+  no_change request fixed is none = subst (Each FitsLine) (sym (ap (changes_by request) is ∙ none)) tt
 
-module _ (old : parts.State) (ready : AreReady old.grammar old.words) (terminals : AreUtf8 old.grammar.terminals) where
-  does_fit : (request : Request) (reply : Reply) (new : parts.State) → GivesUtf8 request → HasShortPlace request → store.IsFree old request
-      → store.Does old request reply new → Each FitsLine (changes_by request reply)
-  does_fit (requests.Word kind texts) reply new utf8 place free x =
-      subst (λ (r : Reply). Each FitsLine (changes_by (requests.Word kind texts) r)) (sym x.answer)
-      (fits (requests.Word kind texts) (word_given old.words kind texts (none_told (word_refusal old.words kind texts) free) utf8) tt)
-  does_fit (requests.Reword text texts) reply new utf8 place free x =
-      subst (λ (r : Reply). Each FitsLine (changes_by (requests.Reword text texts) r)) (sym x.answer)
-      (fits (requests.Reword text texts) (
-        named_plain old text x.word ready x.named,
-        given_plain x.forms.kind texts (lexicon_refusal old.words (reword_refusal old.words x.word (forms_given x.forms.kind texts)))
-            (none_told (reword_cause old.words x.word x.forms.kind texts) (λ refusal told. not_bad_reword old text texts free refusal
-            (record { word = x.word; named = x.named; old = x.forms; of_word = x.of_word; told = told }))) utf8,
-      ) tt)
-  does_fit (requests.Unword text) reply new utf8 place free x =
-      subst (λ (r : Reply). Each FitsLine (changes_by (requests.Unword text) r)) (sym x.answer)
-      (fits (requests.Unword text) (named_plain old text x.word ready x.named) tt)
-  does_fit (requests.Grammar text) reply new utf8 place free x =
-      subst (λ (r : Reply). Each FitsLine (changes_by (requests.Grammar text) r)) (sym x.answer) (fits (requests.Grammar text) utf8 tt)
-  does_fit (requests.Add article given text) reply new utf8 place free x =
-      subst (λ (r : Reply). Each FitsLine (changes_by (requests.Add article given text) r)) (sym x.answer)
-      (fits (requests.Add article given (shown old.grammar.terminals (tokens_of old text))) (
-        named_plain old article x.word ready x.named,
-        sentence_plain old ready terminals (tokens_of old text)
-            (few_tokens old text (free_fourth (NamesNoWord old article) (IsPastEnd old article given) (IsFullOfSentences old) (HasTooManyTokens old text)
-            (IsAtLastRevision old article ∷ HasNoDerivation old text ∷ []) free))
-            (status_sentence (with_inserted old x.word x.place (sentence_with old text Asserted)) (tokens_of old text) x.status x.gets),
-      ) (same_place article given text (shown old.grammar.terminals (tokens_of old text)) place))
-  does_fit (requests.Edit article at text) reply new utf8 place free x =
-      subst (λ (r : Reply). Each FitsLine (changes_by (requests.Edit article at text) r)) (sym x.answer)
-      (fits (requests.Edit article at (shown old.grammar.terminals (tokens_of old text))) (
-        named_plain old article x.word ready x.named,
-        sentence_plain old ready terminals (tokens_of old text)
-            (few_tokens old text (free_third (NamesNoWord old article) (HasNoSentenceAt old article at) (HasTooManyTokens old text)
-            (IsAtLastRevision old article ∷ HasNoDerivation old text ∷ []) free))
-            (status_sentence (with_replaced old x.word at (sentence_with old text Asserted)) (tokens_of old text) x.status x.gets),
-      ) place)
-  does_fit (requests.Remove article at) reply new utf8 place free x =
-      subst (λ (r : Reply). Each FitsLine (changes_by (requests.Remove article at) r)) (sym x.answer)
-      (fits (requests.Remove article at) (named_plain old article x.word ready x.named) place)
-  does_fit (requests.Retract article at) reply new utf8 place free x =
-      subst (λ (r : Reply). Each FitsLine (changes_by (requests.Retract article at) r)) (sym x.answer)
-      (fits (requests.Retract article at) (named_plain old article x.word ready x.named) place)
-  does_fit (requests.Reassert article at) reply new utf8 place free x =
-      subst (λ (r : Reply). Each FitsLine (changes_by (requests.Reassert article at) r)) (sym x.answer)
-      (fits (requests.Reassert article at) (named_plain old article x.word ready x.named) place)
-  does_fit (requests.Find text) reply new utf8 place free x = subst (λ (r : Reply). Each FitsLine (changes_by (requests.Find text) r)) (sym x.answer) tt
-  does_fit requests.Words reply new utf8 place free x = subst (λ (r : Reply). Each FitsLine (changes_by requests.Words r)) (sym x.answer) tt
-  does_fit (requests.Parse text) reply new utf8 place free x = subst (λ (r : Reply). Each FitsLine (changes_by (requests.Parse text) r)) (sym x.answer) tt
-  does_fit (requests.Read article) reply new utf8 place free x = subst (λ (r : Reply). Each FitsLine (changes_by (requests.Read article) r)) (sym x.answer) tt
-  does_fit (requests.Axioms article at) reply new utf8 place free x =
-      subst (λ (r : Reply). Each FitsLine (changes_by (requests.Axioms article at) r)) (sym x.answer) tt
-  does_fit request reply new utf8 place free x = absurd x
+  -- and of one that has one
+  one_change : (request change : Request) (fixed : Reply) → reply ≡ fixed → changes_by request fixed ≡ change ∷ [] → HasPlainTexts change
+      → HasShortPlace change → Each FitsLine (changes_by request reply)
+  one_change request change fixed is one texts place =
+      subst (Each FitsLine) (sym (ap (changes_by request) is ∙ one)) ((texts, place), tt)
 
-  pages_fit : (request : Request) (reply : Reply) (new : parts.State) → GivesUtf8 request → HasShortPlace request → store.Step old request reply new
+  wiki_fits : (asked : WikiRequest) → GivesUtf8 (requests.OnWiki asked) → NoneOf (against_wiki old.stored asked) → DoesOnWiki asked old reply new
+      → Each FitsLine (changes_by (requests.OnWiki asked) reply)
+  wiki_fits (of_wiki.Word kind texts) utf8 free x =
+      let asked = requests.OnWiki (of_wiki.Word kind texts) in
+      one_change asked asked replies.Word x.stored.answer refl
+      (word_given old.stored.words kind texts (none_told (word_refusal old.stored.words kind texts) (λ refusal told. free refusal (inl told))) utf8) tt
+  wiki_fits of_wiki.Words utf8 free x = no_change (requests.OnWiki of_wiki.Words) _ x.0 refl
+  wiki_fits (of_wiki.Parse text) utf8 free x = no_change (requests.OnWiki (of_wiki.Parse text)) _ x.0.answer refl
+  wiki_fits (of_wiki.Grammar text) utf8 free x =
+      let asked = requests.OnWiki (of_wiki.Grammar text) in one_change asked asked replies.Grammar x.stored.answer refl utf8 tt
+
+  word_fits : (form : List ℕ) (asked : WordRequest) (word : Word) → word_with old.stored form ≡ Some word → GivesUtf8 (requests.OnWord form asked)
+      → NoneOf (against_word old.stored asked word) → DoesOnWord asked word old reply new → Each FitsLine (changes_by (requests.OnWord form asked) reply)
+  word_fits form of_word.Find word named utf8 free x = no_change (requests.OnWord form of_word.Find) _ x.0 refl
+  word_fits form (of_word.Reword texts) word named utf8 free x =
+      let asked = requests.OnWord form (of_word.Reword texts) in
+      one_change asked asked replies.Reword x.stored.answer refl (
+        form_plain old.stored form word ready.stored named,
+        given_plain word.forms.kind texts (lexicon_refusal old.stored.words (reword_refusal old.stored.words word.id (forms_given word.forms.kind texts)))
+            (rewordable old.stored word texts free) utf8,
+      ) tt
+  word_fits form of_word.Unword word named utf8 free x =
+      let asked = requests.OnWord form of_word.Unword in
+      one_change asked asked replies.Unword x.stored.answer refl (form_plain old.stored form word ready.stored named) tt
+
+  article_fits : (form : List ℕ) (asked : ArticleRequest) (article : Article) → IsPlainForm form → HasShortPlace (requests.OnArticle form asked)
+      → NoneOf (against_article old asked article) → DoesOnArticle IsSpent asked article old reply new
+      → Each FitsLine (changes_by (requests.OnArticle form asked) reply)
+  article_fits form of_article.Read article plain place free x = no_change (requests.OnArticle form of_article.Read) _ x.0.answer refl
+  article_fits form (of_article.Add given text) article plain place free x =
+      let tokens = tokens_of old.stored text in
+      one_change (requests.OnArticle form (of_article.Add given text)) (requests.OnArticle form (of_article.Add given (showing old.stored tokens)))
+      (replies.Add x.stored.status (showing old.stored tokens)) x.stored.answer refl (
+        plain,
+        sentence_plain old.stored ready.stored terminals tokens
+            (few_tokens tokens (free_third (is_past_end article given) (has_no_room old.stored) (has_too_many tokens)
+            (is_at_last_revision article ∷ is_no_sentence old.stored tokens ∷ []) free))
+            (status_sentence IsSpent (with_inserted old.stored article.word (place_for article given) (sentence_of tokens Asserted)) tokens x.stored.status
+            x.stored.gets),
+      ) (same_place form given text (showing old.stored tokens) place)
+  article_fits form (of_article.Edit at text) article plain place free x =
+      let tokens = tokens_of old.stored text in
+      one_change (requests.OnArticle form (of_article.Edit at text)) (requests.OnArticle form (of_article.Edit at (showing old.stored tokens)))
+      (replies.Edit x.stored.status (showing old.stored tokens)) x.stored.answer refl (
+        plain,
+        sentence_plain old.stored ready.stored terminals tokens
+            (few_tokens tokens (free_second (has_no_place article at) (has_too_many tokens)
+            (is_at_last_revision article ∷ is_no_sentence old.stored tokens ∷ []) free))
+            (status_sentence IsSpent (with_replaced old.stored article.word at (sentence_of tokens Asserted)) tokens x.stored.status x.stored.gets),
+      ) place
+  article_fits form (of_article.Remove at) article plain place free x =
+      let asked = requests.OnArticle form (of_article.Remove at) in one_change asked asked replies.Remove x.stored.answer refl plain place
+  article_fits form (of_article.Retract at) article plain place free x =
+      let asked = requests.OnArticle form (of_article.Retract at) in one_change asked asked (replies.Retract Retracted) x.stored.answer refl plain place
+  article_fits form (of_article.Reassert at) article plain place free x =
+      let asked = requests.OnArticle form (of_article.Reassert at) in
+      one_change asked asked (replies.Reassert x.stored.status) x.stored.answer refl plain place
+  article_fits form (of_article.Axioms at) article plain place free x = no_change (requests.OnArticle form (of_article.Axioms at)) _ x.0.answer refl
+  article_fits form of_article.Open article plain place free x = no_change (requests.OnArticle form of_article.Open) _ x.answer refl
+
+  session_fits : (number : ℕ) (asked : SessionRequest) (session : PlainSession) → length session.tokens ≤ 40 → DoesOnSession IsSpent asked session old reply new
+      → Each FitsLine (changes_by (requests.OnSession number asked) reply)
+  session_fits number (of_session.Type text) session few x = no_change (requests.OnSession number (of_session.Type text)) _ x.answer refl
+  session_fits number of_session.Back session few x = no_change (requests.OnSession number of_session.Back) _ x.answer refl
+  session_fits number of_session.Menu session few x = no_change (requests.OnSession number of_session.Menu) _ x.0.answer refl
+  session_fits number of_session.Commit session few x =
+      one_change (requests.OnSession number of_session.Commit) (requests.OnArticle x.form (of_article.Add None (showing old.stored session.tokens)))
+      (replies.Commit x.form x.status (showing old.stored session.tokens)) x.answer refl (
+        owner_plain (canonical_owner old.stored.words.terminals old.stored.words.live ready.stored.readable session.article x.form x.spelled),
+        sentence_plain old.stored ready.stored terminals session.tokens few
+            (status_sentence IsSpent (with_appended old.stored session.article session.tokens Asserted) session.tokens x.status x.gets),
+      ) tt
+    where
+      owner_plain : owner old.stored.words.live x.form ≡ Some session.article → IsPlainForm x.form
+      owner_plain owned =
+          let is = form_there old.stored.grammar old.stored.words ready.stored x.form session.article owned in (is.utf8, is.short)
+  session_fits number of_session.Refresh session few x = no_change (requests.OnSession number of_session.Refresh) _ x.answer refl
+  session_fits number of_session.Drop session few x = no_change (requests.OnSession number of_session.Drop) _ x.answer refl
+
+  does_fit : (request : Request) → GivesUtf8 request → HasShortPlace request → IsFree old request → Does IsSpent old request reply new
       → Each FitsLine (changes_by request reply)
-  pages_fit request reply new utf8 place step = by (one.outcome old request reply new step)
-    where
-      by : one.IsRefused old request reply new ⊎ one.IsDone old request reply new → Each FitsLine (changes_by request reply)
-      by (inl refused) = subst (λ (r : Reply). Each FitsLine (changes_by request r)) (sym refused.1) tt
-      by (inr done) = does_fit request reply new utf8 place done.0 done.1
-
-module _ (old : State) (ready : IsReady old) (terminals : AreUtf8 old.pages.grammar.terminals) (reply : Reply) (new : State) where
-  session_does : (request : Request) → whole.IsDone old request reply new → Each FitsLine (changes_by request reply)
-  session_does (requests.Begin article) (free, x) = subst (λ (r : Reply). Each FitsLine (changes_by (requests.Begin article) r)) (sym x.answer) tt
-  session_does (requests.Put session text) (free, x) =
-      subst (λ (r : Reply). Each FitsLine (changes_by (requests.Put session text) r)) (sym x.answer) tt
-  session_does (requests.Back session) (free, x) = subst (λ (r : Reply). Each FitsLine (changes_by (requests.Back session) r)) (sym x.answer) tt
-  session_does (requests.Menu session) (free, x) = subst (λ (r : Reply). Each FitsLine (changes_by (requests.Menu session) r)) (sym x.tells.answer) tt
-  session_does (requests.Commit session) (free, x) =
-      subst (λ (r : Reply). Each FitsLine (changes_by (requests.Commit session) r)) (sym x.answer)
-      (fits (requests.Add x.form None (shown old.pages.grammar.terminals x.session.tokens)) (
-        named_plain old.pages x.form x.session.article ready.pages
-            (canonical_owner old.pages.words.terminals old.pages.words.live ready.pages.readable x.session.article x.form x.spelled),
-        sentence_plain old.pages ready.pages terminals x.session.tokens (session_short old.sessions _ x.session ready.short x.named)
-            (status_sentence (with_appended old.pages x.session.article x.session.tokens Asserted) x.session.tokens x.status x.gets),
-      ) tt)
-  session_does (requests.Refresh session) (free, x) =
-      subst (λ (r : Reply). Each FitsLine (changes_by (requests.Refresh session) r)) (sym x.answer) tt
-  session_does (requests.Drop session) (free, x) = subst (λ (r : Reply). Each FitsLine (changes_by (requests.Drop session) r)) (sym x.answer) tt
-  session_does request (free, x) = absurd x
-
-  session_steps : (request : Request) → StepsSession old request reply new → Each FitsLine (changes_by request reply)
-  session_steps request step = by (whole.outcome old request reply new step)
-    where
-      by : whole.IsRefused old request reply new ⊎ whole.IsDone old request reply new → Each FitsLine (changes_by request reply)
-      by (inl refused) = subst (λ (r : Reply). Each FitsLine (changes_by request r)) (sym refused.1) tt
-      by (inr done) = session_does request done
+  does_fit (requests.OnWiki asked) utf8 place free x = wiki_fits asked utf8 free x
+  does_fit (requests.OnWord form asked) utf8 place free x =
+      let found = some_is (word_with old.stored form) (λ word. DoesOnWord asked word old reply new) x in
+      word_fits form asked found.it found.named utf8
+      (free_of_it (word_with old.stored form) (NoWord form) (against_word old.stored asked) found.it found.named free) found.is
+  does_fit (requests.OnArticle form asked) utf8 place free x =
+      let found = some_is (article_named old.stored form) (λ article. DoesOnArticle IsSpent asked article old reply new) x in
+      article_fits form asked found.it (article_plain old.stored form found.it ready.stored found.named) place
+      (free_of_it (article_named old.stored form) (NoWord form) (against_article old asked) found.it found.named free) found.is
+  does_fit (requests.OnSession number asked) utf8 place free x =
+      let found = some_is (session_numbered old number) (λ session. DoesOnSession IsSpent asked session old reply new) x in
+      session_fits number asked found.it (session_short old.sessions _ found.it ready.short found.named) found.is
 
   -- the change of a step fits a line
-  pub step_fits : (request : Request) → GivesUtf8 request → HasShortPlace request → Step old request reply new → Each FitsLine (changes_by request reply)
-  step_fits (requests.Begin article) utf8 place step = session_steps (requests.Begin article) step
-  step_fits (requests.Put session text) utf8 place step = session_steps (requests.Put session text) step
-  step_fits (requests.Back session) utf8 place step = session_steps (requests.Back session) step
-  step_fits (requests.Menu session) utf8 place step = session_steps (requests.Menu session) step
-  step_fits (requests.Commit session) utf8 place step = session_steps (requests.Commit session) step
-  step_fits (requests.Refresh session) utf8 place step = session_steps (requests.Refresh session) step
-  step_fits (requests.Drop session) utf8 place step = session_steps (requests.Drop session) step
-  step_fits request utf8 place step = pages_fit old.pages ready.pages terminals request reply new.pages utf8 place step.pages
+  pub step_fits : (request : Request) → GivesUtf8 request → HasShortPlace request → Step IsSpent old request reply new
+      → Each FitsLine (changes_by request reply)
+  step_fits request utf8 place step = by (outcome IsSpent old request reply new step)
+    where
+      by : IsRefused old request reply new ⊎ IsDone IsSpent old request reply new → Each FitsLine (changes_by request reply)
+      by (inl refused) = no_change request (replies.Refused refused.0) refused.1 refl
+      by (inr done) = does_fit request utf8 place done.0 done.1
 
 -- ---- runs
 
@@ -224,25 +250,25 @@ pub all_from_each : (requests : List Request) → Each FitsLine requests → All
 all_from_each [] each = All-nil FitsLine
 all_from_each (request ∷ requests) each = All-cons FitsLine request requests each.0 (all_from_each requests each.1)
 
-run_fits : (exchanges : List (Exchange Request Reply)) (first last : State) → IsReady first → AreUtf8 first.pages.grammar.terminals
-    → Turns Step first exchanges last → All GivesUtf8 (asked_of exchanges) → All GivesUnraised (asked_of exchanges) → All HasShortPlace (asked_of exchanges)
-    → All FitsLine (changes_of exchanges)
-run_fits [] first last ready terminals turns utf8 unraised places = All-nil FitsLine
-run_fits (no_request ∷ exchanges) first last ready terminals (next, is, turns) utf8 unraised places =
-    run_fits exchanges next last (subst IsReady (sym is) ready) (subst (λ (s : State). AreUtf8 s.pages.grammar.terminals) (sym is) terminals) turns
+run_fits : (IsSpent : Spending) (exchanges : List (Exchange Request Reply)) (first last : State) → IsReady first → AreUtf8 first.stored.grammar.terminals
+    → Turns (Step IsSpent) first exchanges last → All GivesUtf8 (asked_of exchanges) → All GivesUnraised (asked_of exchanges)
+    → All HasShortPlace (asked_of exchanges) → All FitsLine (changes_of exchanges)
+run_fits IsSpent [] first last ready terminals turns utf8 unraised places = All-nil FitsLine
+run_fits IsSpent (no_request ∷ exchanges) first last ready terminals (next, is, turns) utf8 unraised places =
+    run_fits IsSpent exchanges next last (subst IsReady (sym is) ready) (subst (λ (s : State). AreUtf8 s.stored.grammar.terminals) (sym is) terminals) turns
     utf8 unraised places
-run_fits (answered request reply ∷ exchanges) first last ready terminals (next, step, turns) utf8 unraised places =
+run_fits IsSpent (answered request reply ∷ exchanges) first last ready terminals (next, step, turns) utf8 unraised places =
     let own_utf8 = All-head GivesUtf8 request (asked_of exchanges) utf8 in
     let own_place = All-head HasShortPlace request (asked_of exchanges) places in
     All-append FitsLine (changes_by request reply) (changes_of exchanges)
-    (all_from_each (changes_by request reply) (step_fits first ready terminals reply next request own_utf8 own_place step))
-    (run_fits exchanges next last
-    (stays_ready first next reply ready request own_utf8 (All-head GivesUnraised request (asked_of exchanges) unraised) step)
-    (stays_utf8 first next reply request own_utf8 terminals step) turns
+    (all_from_each (changes_by request reply) (step_fits IsSpent first ready terminals reply next request own_utf8 own_place step))
+    (run_fits IsSpent exchanges next last
+    (stays_ready IsSpent first reply next ready request own_utf8 (All-head GivesUnraised request (asked_of exchanges) unraised) step)
+    (stays_utf8 IsSpent first reply next request own_utf8 terminals step) turns
     (All-tail GivesUtf8 request (asked_of exchanges) utf8) (All-tail GivesUnraised request (asked_of exchanges) unraised)
     (All-tail HasShortPlace request (asked_of exchanges) places))
 
 -- Each change of a run fits a short line, however long the text was that was sent.
 pub changes_fit : (g : GrammarParts) → IsSound g → NoneIsRaised g.terminals → AreUtf8 g.terminals → ChangesFitLines g
 changes_fit g sound apart utf8 budget exchanges last turns given unraised places =
-    run_fits exchanges (first_state g budget) last (first_ready g budget sound apart) utf8 turns given unraised places
+    run_fits (IsCutOff budget) exchanges (first_state g) last (first_ready g sound apart) utf8 turns given unraised places

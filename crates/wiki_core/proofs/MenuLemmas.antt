@@ -1,5 +1,35 @@
 -- What is told of tokens is one thing.
-use Rattle.std.proofs.Common.{◌≡◌, ℕ, zero, suc, ◌<◌, ◌⊎◌, Bool, true, false, List, [], ◌∷◌, ◌++◌, All, AllPairs, Some, option_map, IsTrue, ◌↔◌, refl, sym, ap, subst, ◌∙◌, arith, inl, inr}
+use Rattle.std.proofs.Common.{
+  ◌≡◌,
+  ℕ,
+  zero,
+  suc,
+  ◌<◌,
+  ◌⊎◌,
+  Bool,
+  true,
+  false,
+  List,
+  [],
+  ◌∷◌,
+  ◌++◌,
+  All,
+  AllPairs,
+  Option,
+  Some,
+  None,
+  option_map,
+  IsTrue,
+  ◌↔◌,
+  refl,
+  sym,
+  ap,
+  subst,
+  ◌∙◌,
+  arith,
+  inl,
+  inr,
+}
 use Rattle.std.specs.List.{Contains}
 use Rattle.std.specs.Str.{IsUtf8}
 use Rattle.std.specs.Ordering.{ordering_reverse}
@@ -18,18 +48,29 @@ use Rattle.derivation_trees.specs.Settings.{Setting}
 use Rattle.derivation_trees.specs.Derives.{IsDerivation}
 use Rattle.derivations.specs.Typing.{IsTextMenu}
 use Rattle.sessions.specs.declared.session.Session.{Session}
-use Rattle.sessions.specs.Sessions.{PlainSession, plain, IsKept}
+use Rattle.plain_wiki.specs.Sessions.{PlainSession}
+use Rattle.sessions.specs.Sessions.{plain, IsKept}
 use Rattle.wiki_talk.specs.declared.replies.MenuView.{MenuView}
 use Rattle.wiki_talk.specs.declared.replies.Reply.{Reply}
 use Rattle.wiki_talk.specs.declared.replies.Reply.TheVariants as replies
 use Rattle.wiki_talk.specs.declared.requests.Request.{Request}
 use Rattle.wiki_talk.specs.declared.requests.Request.TheVariants as requests
-use Rattle.wiki_parts.specs.Parsing.{told_menu}
-use Rattle.wiki_core.specs.State.{State}
-use Rattle.wiki_core.specs.Causes.{session_numbered}
-use Rattle.wiki_core.specs.Step.{Step, StepsSession, TellsMenu, TellsSession}
+use Rattle.wiki_talk.specs.declared.requests.SessionRequest.TheVariants as of_session
+use Rattle.plain_wiki.specs.Parsing.{told_menu}
+use Rattle.plain_wiki.specs.State.{State}
+use Rattle.plain_wiki.specs.Places.{session_numbered}
+use Rattle.plain_wiki.specs.Step.{Step}
+use Rattle.plain_wiki.specs.Knowledge.{Spending}
+use Rattle.plain_wiki.specs.Step.{OnlyTells}
+use Rattle.plain_wiki.specs.Doing.{TellsMenu}
 use Rattle.wiki_core.specs.Apart.{tokens_in, MenuIsOwn}
+use Rattle.std.specs.Option.{IsSomeAnd}
+use Rattle.wiki_talk.specs.declared.refusals.Refusal.TheVariants.{NoSession}
+use Rattle.plain_wiki.specs.Causes.{FirstOf, of_named}
+use Rattle.wiki_parts.specs.Spending.{IsCutOff}
+use Rattle.wiki_parts.proofs.FirstLemmas.{nothing_stands}
 use Rattle.wiki_core.proofs.KeyLaws.{pairs_head}
+use Rattle.wiki_core.proofs.NamedLemmas.{free_named, some_and}
 
 -- what is in a list is its head, or in its tail
 head_or_later : {X : Type 0} (y : X) (ys : List X) (x : X) → Contains (y ∷ ys) x → (y ≡ x) ⊎ Contains ys x
@@ -104,49 +145,61 @@ tells_one g words tokens one other tells its =
     ∙ sym tells.answer
 
 -- the reply to `menu` of a session that is there tells of its tokens
-told_of : (state new : State) (number : ℕ) (tokens : List (List ℕ)) (reply : Reply) → tokens_in state number ≡ Some tokens
-    → StepsSession state (requests.Menu number) reply new
-    → TellsMenu state.pages.grammar state.pages.words tokens reply
-told_of state new number tokens (replies.Refused refusal) there step =
-    absurd (none-some tokens (ap (option_map (λ (s : PlainSession). s.tokens)) (sym step.0.none) ∙ there))
-told_of state new number tokens reply there step =
-    let same : step.1.session.tokens ≡ tokens =
-    same_Some step.1.session.tokens tokens (ap (option_map (λ (s : PlainSession). s.tokens)) (sym step.1.named) ∙ there) in
-    subst (λ (ts : List (List ℕ)). TellsMenu state.pages.grammar state.pages.words ts reply) same step.1.tells
+told_of : (IsSpent : Spending) (state new : State) (number : ℕ) (tokens : List (List ℕ)) (reply : Reply) → tokens_in state number ≡ Some tokens
+    → Step IsSpent state (requests.OnSession number of_session.Menu) reply new
+    → TellsMenu state.stored.grammar state.stored.words tokens reply
+told_of IsSpent state new number tokens (replies.Refused refusal) there step = absurd (by (session_numbered state number) there step.0)
+  where
+    by : (o : Option PlainSession) → option_map (λ (s : PlainSession). s.tokens) o ≡ Some tokens → FirstOf (of_named o (NoSession number) (λ _. [])) refusal → ⊥
+    by None none first = none-some tokens none
+    by (Some s) named first = first
+told_of IsSpent state new number tokens reply there step = by (session_numbered state number) there step.1
+  where
+    by : (o : Option PlainSession) → option_map (λ (s : PlainSession). s.tokens) o ≡ Some tokens
+        → IsSomeAnd o (λ s. OnlyTells (TellsMenu state.stored.grammar state.stored.words s.tokens) state reply new)
+        → TellsMenu state.stored.grammar state.stored.words tokens reply
+    by None none tells = absurd tells
+    by (Some s) named tells = subst (λ (ts : List (List ℕ)). TellsMenu state.stored.grammar state.stored.words ts reply) (same_Some s.tokens tokens named)
+        tells.0
 
 -- so it is a function of the grammar, the words and the tokens
-pub menu_own : (state new : State) (request : Request) (reply : Reply) → Step state request reply new → MenuIsOwn state request reply
-menu_own state new (requests.Menu number) reply step = λ other its_number said after alike its_step.
-    let its = told_of other after its_number alike.tokens said alike.its its_step in
-    let by_grammar = subst (λ (g : GrammarParts). TellsMenu g other.pages.words alike.tokens said) alike.grammar its in
-    let by_words = subst (λ (words : Listed). TellsMenu state.pages.grammar words alike.tokens said) alike.words by_grammar in
-    tells_one state.pages.grammar state.pages.words alike.tokens reply said (told_of state new number alike.tokens reply alike.own step) by_words
-menu_own state new request reply step = tt
+pub menu_own : (budget : ℕ) (state new : State) (request : Request) (reply : Reply) → Step (IsCutOff budget) state request reply new
+    → MenuIsOwn state request reply
+menu_own budget state new (requests.OnSession number of_session.Menu) reply step = λ other its_budget its_number said after alike its_step.
+    let its = told_of (IsCutOff its_budget) other after its_number alike.tokens said alike.its its_step in
+    let by_grammar = subst (λ (g : GrammarParts). TellsMenu g other.stored.words alike.tokens said) alike.grammar its in
+    let by_words = subst (λ (words : Listed). TellsMenu state.stored.grammar words alike.tokens said) alike.words by_grammar in
+    tells_one state.stored.grammar state.stored.words alike.tokens reply said (told_of (IsCutOff budget) state new number alike.tokens reply alike.own step)
+    by_words
+menu_own budget state new request reply step = tt
 
 -- what an editor tells of a session is what is told of its tokens
-pub menu_told : (state : State) (number : ℕ) (session : Session) (g h : GrammarParts) (words : Listed) (tokens : List (List ℕ)) (menu : List (Group × List ℕ))
-    (view : MenuView) (whole : Bool) (text : List ℕ)
-    → g ≡ state.pages.grammar → h ≡ state.pages.grammar → words ≡ state.pages.words → tokens ≡ session.editor.tokens
+pub menu_told : (IsSpent : Spending) (state : State) (number : ℕ) (session : Session) (g h : GrammarParts) (words : Listed) (tokens : List (List ℕ))
+    (menu : List (Group × List ℕ)) (view : MenuView) (whole : Bool) (text : List ℕ)
+    → g ≡ state.stored.grammar → h ≡ state.stored.grammar → words ≡ state.stored.words → tokens ≡ session.editor.tokens
     → session_numbered state number ≡ Some (plain session)
-    → IsKept state.pages.grammar state.pages.words session → IsTextMenu g words session.editor.tokens menu → All (λ entry. IsUtf8 entry.1) menu
+    → IsKept state.stored.grammar state.stored.words session → IsTextMenu g words session.editor.tokens menu → All (λ entry. IsUtf8 entry.1) menu
     → view ≡ told_menu menu
     → (IsTrue whole ↔ ((tree : Node) × IsDerivation session.editor tree)) → text ≡ shown h.terminals tokens
-    → TellsSession state number (replies.Menu view whole text) state
-menu_told state number session g h words tokens menu view whole text same_g same_h same_words same_tokens named kept follows texts told is_whole shows =
-    record {
-      session = plain session;
-      named = named;
-      tells = record {
-        menu = menu;
-        follows = subst (λ (p : GrammarParts). IsTextMenu p state.pages.words session.editor.tokens menu) same_g
-            (subst (λ (w : Listed). IsTextMenu g w session.editor.tokens menu) same_words follows);
-        texts = texts;
-        whole = whole;
-        is_whole = subst (λ (s : Setting). IsTrue whole ↔ ((tree : Node) × IsDerivation s tree)) kept is_whole;
-        answer = ap (λ (v : MenuView). replies.Menu v whole text) told
-            ∙ ap (λ (t : List ℕ). replies.Menu (told_menu menu) whole t)
-            (shows ∙ ap (λ (p : GrammarParts). shown p.terminals tokens) same_h
-            ∙ ap (λ (ts : List (List ℕ)). shown state.pages.grammar.terminals ts) same_tokens);
-      };
-      after = refl;
+    → Step IsSpent state (requests.OnSession number of_session.Menu) (replies.Menu view whole text) state
+menu_told IsSpent state number session g h words tokens menu view whole text same_g same_h same_words same_tokens named kept follows texts told
+    is_whole shows = (
+      free_named (session_numbered state number) (NoSession number) (λ _. []) (plain session) named nothing_stands,
+      some_and (session_numbered state number)
+          (λ s. OnlyTells (TellsMenu state.stored.grammar state.stored.words s.tokens) state (replies.Menu view whole text) state) (plain session) named
+          (tells, refl),
+    )
+  where
+    tells : TellsMenu state.stored.grammar state.stored.words session.editor.tokens (replies.Menu view whole text)
+    tells = record {
+      menu = menu;
+      follows = subst (λ (p : GrammarParts). IsTextMenu p state.stored.words session.editor.tokens menu) same_g
+          (subst (λ (w : Listed). IsTextMenu g w session.editor.tokens menu) same_words follows);
+      texts = texts;
+      whole = whole;
+      is_whole = subst (λ (s : Setting). IsTrue whole ↔ ((tree : Node) × IsDerivation s tree)) kept is_whole;
+      answer = ap (λ (v : MenuView). replies.Menu v whole text) told
+          ∙ ap (λ (t : List ℕ). replies.Menu (told_menu menu) whole t)
+          (shows ∙ ap (λ (p : GrammarParts). shown p.terminals tokens) same_h
+          ∙ ap (λ (ts : List (List ℕ)). shown state.stored.grammar.terminals ts) same_tokens);
     }

@@ -1,421 +1,230 @@
--- Words and sentences are a function of what is asked, where no budget is spent.
-use Rattle.std.proofs.Common.{◌≡◌, ℕ, Bool, false, List, [], ◌∷◌, ◌⊎◌, inl, inr, Option, refl, sym, ap, subst, ◌∙◌}
+-- The plain wiki is a function of what it is asked, whatever counts as a spent budget, where no budget is spent.
+use Rattle.std.proofs.Common.{◌≡◌, ℕ, false, List, [], ◌∷◌, ◌⊎◌, inl, inr, Option, Some, None, refl, sym, ap, subst, ◌∙◌}
 use Rattle.std.proofs.lemmas.Bool.{false≢true}
 use Rattle.std.proofs.lemmas.Option.{same_Some}
+use Rattle.std.specs.Option.{IsSomeAnd}
 use Rattle.wiki_base.specs.declared.numbers.WordId.{WordId}
-use Rattle.lexicon.specs.declared.kinds.Kind.{Kind}
-use Rattle.lexicon.specs.declared.kinds.Forms.{Forms}
+use Rattle.wiki_base.specs.declared.numbers.SessionId.{SessionId}
+use Rattle.wiki_base.specs.declared.numbers.Rev.{Rev}
 use Rattle.codeco_terms.specs.GrammarParts.{GrammarParts}
 use Rattle.codeco_reader.proofs.OneGrammar.{same_grammar}
-use Rattle.lexicon.specs.Words.{with_forms, without_word, with_terminals, forms_of}
-use Rattle.derivation_trees.specs.Cutting.{shown}
+use Rattle.lexicon.specs.declared.words.Word.{Word}
+use Rattle.lexicon.specs.Words.{Listed, with_terminals}
 use Rattle.logic_terms.specs.Concept.{Claim}
-use Rattle.reasoner.specs.Verdicts.{HaveNoModel}
 use Rattle.wiki_talk.specs.declared.statuses.Status.{Status}
-use Rattle.wiki_talk.specs.declared.statuses.Status.TheVariants.{Asserted, Retracted, RedContradiction, RedBudget}
-use Rattle.wiki_talk.specs.declared.refusals.Refusal.{Refusal}
+use Rattle.wiki_talk.specs.declared.statuses.Status.TheVariants.{Asserted, RedContradiction, RedBudget}
 use Rattle.wiki_talk.specs.declared.replies.Reply.{Reply}
-use Rattle.wiki_talk.specs.declared.replies.Reply.TheVariants as replies
 use Rattle.wiki_talk.specs.declared.requests.Request.{Request}
 use Rattle.wiki_talk.specs.declared.requests.Request.TheVariants as requests
+use Rattle.wiki_talk.specs.declared.requests.WikiRequest.TheVariants as of_wiki
+use Rattle.wiki_talk.specs.declared.requests.WordRequest.{WordRequest}
+use Rattle.wiki_talk.specs.declared.requests.WordRequest.TheVariants as of_word
+use Rattle.wiki_talk.specs.declared.requests.ArticleRequest.{ArticleRequest}
+use Rattle.wiki_talk.specs.declared.requests.ArticleRequest.TheVariants as of_article
+use Rattle.wiki_talk.specs.declared.requests.SessionRequest.{SessionRequest}
+use Rattle.wiki_talk.specs.declared.requests.SessionRequest.TheVariants as of_session
 use Rattle.articles.specs.declared.sentences.Sentence.{Sentence}
-use Rattle.articles.specs.Articles.{without_article}
-use Rattle.wiki_parts.specs.State.{State}
-use Rattle.wiki_parts.specs.Words.{forms_given}
-use Rattle.wiki_parts.specs.Parsing.{tokens_of}
-use Rattle.wiki_parts.specs.Meanings.{Meaning, stating, outside, asking, asking_outside}
-use Rattle.wiki_parts.specs.Knowledge.{HaveModel, IsAllowed, IsVerdict, IsStatusOf, GetStatus}
+use Rattle.articles.specs.declared.article.Article.{Article}
+use Rattle.plain_wiki.specs.Sessions.{PlainSession, AreRebased, IsRebasedSession, with_revision, without_article}
+use Rattle.plain_wiki.specs.State.{Stored, State}
+use Rattle.plain_wiki.specs.Places.{word_with, article_named, session_numbered}
+use Rattle.plain_wiki.specs.Parsing.{tokens_of}
+use Rattle.plain_wiki.specs.Meanings.{Meaning, stating, outside, asking, asking_outside}
+use Rattle.plain_wiki.specs.Knowledge.{Spending, HaveModel, HaveNoModel, IsAllowed, IsVerdict, IsStatusOf, GetStatus}
 use Rattle.wiki_parts.proofs.MeaningLemmas.{means_one, knows_one}
-use Rattle.wiki_parts.specs.Refusing.{FirstOf, NamesNoWord, IsBadReword, BreaksSentence, IsInUse, IsNoGrammar, IsBare, HasForm, BreaksByGrammar, TellsPlace, HasNoSentenceAt, IsPastEnd, IsFullOfSentences, HasTooManyTokens, IsAtLastRevision, HasNoDerivation, HasBadStatus, may_retract, may_reassert}
-use Rattle.wiki_store.specs.Step.{Step, Refuses, IsFree, Does, AddsWord, RewordsWord, RemovesWord, TakesGrammar, AddsSentence, EditsSentence, RemovesSentence, RetractsSentence, ReassertsSentence, with_inserted, with_replaced, with_taken, with_marked, sentence_with}
+use Rattle.plain_wiki.specs.Doing.{with_inserted, with_replaced, with_marked, with_appended, place_for, sentence_with, with_session, begun_again}
+use Rattle.plain_wiki.specs.Step.{ChangesWords, AreRebasedTo, DoesOnWord, DoesOnArticle, DoesOnSession, Does, Step}
 use Rattle.wiki_core.specs.Journaled.{is_spent, tells_spent}
-
--- the same wiki, where a search may take so many steps
-abbrev pub at_budget : State → ℕ → State
-at_budget state budget = record state { budget = budget }
-
--- ---- a step is refused or done
-
-abbrev pub IsRefused : State → Request → Reply → State → Type 0
-IsRefused old request reply new = (refusal : Refusal) × (reply ≡ replies.Refused refusal) × Refuses old request refusal × (new ≡ old)
-
-abbrev pub IsDone : State → Request → Reply → State → Type 0
-IsDone old request reply new = IsFree old request × Does old request reply new
-
-pub outcome : (old : State) (request : Request) (reply : Reply) (new : State) → Step old request reply new
-    → IsRefused old request reply new ⊎ IsDone old request reply new
-outcome old request (replies.Refused refusal) new step = inl (refusal, refl, step.0, step.1)
-outcome old request reply new step = inr step
+use Rattle.wiki_core.proofs.HearLemmas.{rebased_tokens}
+use Rattle.wiki_core.proofs.StepLemmas.{IsRefused, IsDone, outcome}
 
 -- ---- statuses
 
 verdicts_differ : (claims : List Claim) → HaveModel claims → HaveNoModel claims → ⊥
 verdicts_differ claims has none = none has.0 has.1
 
-allowed_one : (claims : List Claim) (names : List WordId) (budget its_budget : ℕ) (one other : Status) → IsAllowed claims names budget one
-    → IsAllowed claims names its_budget other → is_spent one ≡ false → is_spent other ≡ false → other ≡ one
-allowed_one claims names budget its_budget Asserted other is its kept also = by other its also
-  where
-    by : (status : Status) → IsAllowed claims names its_budget status → is_spent status ≡ false → status ≡ Asserted
-    by Asserted its also = refl
-    by RedContradiction its also = absurd (verdicts_differ claims is its)
-    by RedBudget its also = absurd (false≢true (sym also))
-    by status its also = absurd its
-allowed_one claims names budget its_budget RedContradiction other is its kept also = by other its also
-  where
-    by : (status : Status) → IsAllowed claims names its_budget status → is_spent status ≡ false → status ≡ RedContradiction
-    by Asserted its also = absurd (verdicts_differ claims its is)
-    by RedContradiction its also = refl
-    by RedBudget its also = absurd (false≢true (sym also))
-    by status its also = absurd its
-allowed_one claims names budget its_budget RedBudget other is its kept also = absurd (false≢true (sym kept))
-allowed_one claims names budget its_budget one other is its kept also = absurd is
+module _ (IsSpent ItsSpent : Spending) where
+  allowed_one : (claims : List Claim) (names : List WordId) (one other : Status) → IsAllowed claims names IsSpent one
+      → IsAllowed claims names ItsSpent other → is_spent one ≡ false → is_spent other ≡ false → other ≡ one
+  allowed_one claims names Asserted other is its kept also = by other its also
+    where
+      by : (status : Status) → IsAllowed claims names ItsSpent status → is_spent status ≡ false → status ≡ Asserted
+      by Asserted its also = refl
+      by RedContradiction its also = absurd (verdicts_differ claims is its)
+      by RedBudget its also = absurd (false≢true (sym also))
+      by status its also = absurd its
+  allowed_one claims names RedContradiction other is its kept also = by other its also
+    where
+      by : (status : Status) → IsAllowed claims names ItsSpent status → is_spent status ≡ false → status ≡ RedContradiction
+      by Asserted its also = absurd (verdicts_differ claims its is)
+      by RedContradiction its also = refl
+      by RedBudget its also = absurd (false≢true (sym also))
+      by status its also = absurd its
+  allowed_one claims names RedBudget other is its kept also = absurd (false≢true (sym kept))
+  allowed_one claims names one other is its kept also = absurd is
 
-verdict_one : (state : State) (budget : ℕ) (one other : Status) → IsVerdict state one → IsVerdict (at_budget state budget) other → is_spent one ≡ false
-    → is_spent other ≡ false → other ≡ one
-verdict_one state budget one other is its kept also =
-    let same : its.claims ≡ is.claims = knows_one state its.claims is.claims its.known is.known in
-    allowed_one is.claims _ state.budget budget one other is.allowed
-    (subst (λ (claims : List Claim). IsAllowed claims _ budget other) same its.allowed) kept also
+  verdict_one : (state : Stored) (one other : Status) → IsVerdict IsSpent state one → IsVerdict ItsSpent state other → is_spent one ≡ false
+      → is_spent other ≡ false → other ≡ one
+  verdict_one state one other is its kept also =
+      let same : its.claims ≡ is.claims = knows_one state its.claims is.claims its.known is.known in
+      allowed_one is.claims _ one other is.allowed (subst (λ (claims : List Claim). IsAllowed claims _ ItsSpent other) same its.allowed) kept also
 
-status_of_one : (state : State) (budget : ℕ) (meaning : Meaning) (one other : Status) → IsStatusOf state meaning one
-    → IsStatusOf (at_budget state budget) meaning other → is_spent one ≡ false → is_spent other ≡ false → other ≡ one
-status_of_one state budget (stating []) one other is its kept also = its ∙ sym is
-status_of_one state budget (stating (claim ∷ claims)) one other is its kept also = verdict_one state budget one other is its kept also
-status_of_one state budget (outside cause) one other is its kept also = its ∙ sym is
-status_of_one state budget (asking concept) one other is its kept also = its ∙ sym is
-status_of_one state budget (asking_outside cause) one other is its kept also = its ∙ sym is
+  status_of_one : (state : Stored) (meaning : Meaning) (one other : Status) → IsStatusOf IsSpent state meaning one
+      → IsStatusOf ItsSpent state meaning other → is_spent one ≡ false → is_spent other ≡ false → other ≡ one
+  status_of_one state (stating []) one other is its kept also = its ∙ sym is
+  status_of_one state (stating (claim ∷ claims)) one other is its kept also = verdict_one state one other is its kept also
+  status_of_one state (outside cause) one other is its kept also = its ∙ sym is
+  status_of_one state (asking concept) one other is its kept also = its ∙ sym is
+  status_of_one state (asking_outside cause) one other is its kept also = its ∙ sym is
 
--- tokens get one status, where no budget is spent
-pub status_one : (state : State) (budget : ℕ) (tokens : List (List ℕ)) (one other : Status) → GetStatus state tokens one
-    → GetStatus (at_budget state budget) tokens other → is_spent one ≡ false → is_spent other ≡ false → other ≡ one
-status_one state budget tokens one other is its kept also =
-    let same : its.meaning ≡ is.meaning = means_one state.grammar state.words tokens its.meaning is.meaning its.means is.means in
-    status_of_one state budget is.meaning one other is.fits
-    (subst (λ (meaning : Meaning). IsStatusOf (at_budget state budget) meaning other) same its.fits) kept also
+  -- tokens get one status, where no budget is spent
+  pub status_one : (state : Stored) (tokens : List (List ℕ)) (one other : Status) → GetStatus IsSpent state tokens one
+      → GetStatus ItsSpent state tokens other → is_spent one ≡ false → is_spent other ≡ false → other ≡ one
+  status_one state tokens one other is its kept also =
+      let same : its.meaning ≡ is.meaning = means_one state.grammar state.words tokens its.meaning is.meaning its.means is.means in
+      status_of_one state is.meaning one other is.fits
+      (subst (λ (meaning : Meaning). IsStatusOf ItsSpent state meaning other) same its.fits) kept also
+
+-- ---- sessions over other words
+
+session_is : (a b : PlainSession) → a.number ≡ b.number → a.article ≡ b.article → a.revision ≡ b.revision → a.tokens ≡ b.tokens → a ≡ b
+session_is a b number article revision tokens =
+    ap (λ (n : SessionId). record { number = n; article = a.article; revision = a.revision; tokens = a.tokens }) number
+    ∙ ap (λ (w : WordId). record { number = b.number; article = w; revision = a.revision; tokens = a.tokens }) article
+    ∙ ap (λ (r : Rev). record { number = b.number; article = b.article; revision = r; tokens = a.tokens }) revision
+    ∙ ap (λ (ts : List (List ℕ)). record { number = b.number; article = b.article; revision = b.revision; tokens = ts }) tokens
+
+rebased_session : (g : GrammarParts) (words : Listed) (session one other : PlainSession) → IsRebasedSession g words session one
+    → IsRebasedSession g words session other → other ≡ one
+rebased_session g words session one other is its =
+    session_is other one (its.number ∙ sym is.number) (its.article ∙ sym is.article) (its.revision ∙ sym is.revision)
+    (rebased_tokens g words session.tokens one.tokens other.tokens is.tokens its.tokens)
+
+pub rebased_one : (g : GrammarParts) (words : Listed) (sessions one other : List PlainSession) → AreRebased g words sessions one
+    → AreRebased g words sessions other → other ≡ one
+rebased_one g words [] [] [] is its = refl
+rebased_one g words [] [] (o ∷ other) is its = absurd its
+rebased_one g words [] (n ∷ one) other is its = absurd is
+rebased_one g words (s ∷ sessions) [] other is its = absurd is
+rebased_one g words (s ∷ sessions) (n ∷ one) [] is its = absurd its
+rebased_one g words (s ∷ sessions) (n ∷ one) (o ∷ other) is its =
+    ap (λ (t : PlainSession). t ∷ other) (rebased_session g words s n o is.0 its.0)
+    ∙ ap (λ (ts : List PlainSession). n ∷ ts) (rebased_one g words sessions one other is.1 its.1)
 
 -- ---- what is done
 
--- the reply to a change is the same
-abbrev pub SaysSame : Request → Reply → Reply → Type 0
-SaysSame (requests.Find word) one other = Unit {0}
-SaysSame requests.Words one other = Unit {0}
-SaysSame (requests.Parse text) one other = Unit {0}
-SaysSame (requests.Read article) one other = Unit {0}
-SaysSame (requests.Axioms article place) one other = Unit {0}
-SaysSame request one other = other ≡ one
+abbrev state_of : Stored → List PlainSession → ℕ → State
+state_of stored sessions last = record { stored = stored; sessions = sessions; last = last }
 
--- the same comes about, and the same is said of a change
-abbrev pub ComesAlike : Request → ℕ → Reply → Reply → State → State → Type 0
-ComesAlike request budget one other new its_new = SaysSame request one other × (its_new ≡ at_budget new budget)
+state_is : (a b : State) → a.stored ≡ b.stored → a.sessions ≡ b.sessions → a.last ≡ b.last → a ≡ b
+state_is a b stored sessions last =
+    ap (λ (p : Stored). state_of p a.sessions a.last) stored
+    ∙ ap (λ (ss : List PlainSession). state_of b.stored ss a.last) sessions
+    ∙ ap (λ (n : ℕ). state_of b.stored b.sessions n) last
 
-alike : (budget : ℕ) (state new its_new : State) → new ≡ state → its_new ≡ at_budget state budget → its_new ≡ at_budget new budget
-alike budget state new its_new is its = its ∙ sym (ap (λ (s : State). at_budget s budget) is)
+both : {T : Type 0} (o : Option T) (P Q : T → Type 0) (R : Type 0) → ((t : T) → P t → Q t → R) → IsSomeAnd o P → IsSomeAnd o Q → R
+both None P Q R gives p q = absurd p
+both (Some t) P Q R gives p q = gives t p q
 
-module _ (old : State) (budget : ℕ) (said its : Reply) (new its_new : State) where
-  word_alike : (kind : Kind) (texts : List (List ℕ)) → AddsWord old kind texts said new → AddsWord (at_budget old budget) kind texts its its_new
-      → (its ≡ said) × (its_new ≡ at_budget new budget)
-  word_alike kind texts x y = (y.answer ∙ sym x.answer, alike budget _ new its_new x.after y.after)
+module _ (IsSpent ItsSpent : Spending) (old : State) (said its : Reply) (new its_new : State) (kept : tells_spent said ≡ false)
+    (also : tells_spent its ≡ false) where
+  -- words or the grammar change to the same
+  words_one : (changes its_changes : Stored → Reply → Stored → Type 0) → ChangesWords changes old said new → ChangesWords its_changes old its its_new
+      → its_new.stored ≡ new.stored → its_new ≡ new
+  words_one changes its_changes x y same =
+      state_is its_new new same
+      (rebased_one new.stored.grammar new.stored.words old.sessions new.sessions its_new.sessions x.sessions
+      (subst (λ (p : Stored). AreRebasedTo p old.sessions its_new.sessions) same y.sessions))
+      (y.last ∙ sym x.last)
 
-  reword_alike : (text : List ℕ) (texts : List (List ℕ)) → RewordsWord old text texts said new → RewordsWord (at_budget old budget) text texts its its_new
-      → (its ≡ said) × (its_new ≡ at_budget new budget)
-  reword_alike text texts x y =
-      let word : y.word ≡ x.word = same_Some y.word x.word (sym y.named ∙ x.named) in
-      let forms : y.forms ≡ x.forms = same_Some y.forms x.forms (sym y.of_word ∙ ap (forms_of old.words.live) word ∙ x.of_word) in (
-        y.answer ∙ sym x.answer,
-        alike budget _ new its_new x.after
-            (y.after ∙ ap (λ (w : WordId). record old { budget = budget; words = with_forms old.words w (forms_given y.forms.kind texts) }) word
-            ∙ ap (λ (f : Forms). record old { budget = budget; words = with_forms old.words x.word (forms_given f.kind texts) }) forms),
-      )
+  word_one : (asked : WordRequest) (word : Word) → DoesOnWord asked word old said new → DoesOnWord asked word old its its_new → its_new ≡ new
+  word_one of_word.Find word x y = y.1 ∙ sym x.1
+  word_one (of_word.Reword texts) word x y = words_one _ _ x y (y.stored.after ∙ sym x.stored.after)
+  word_one of_word.Unword word x y =
+      let same : its_new.stored ≡ new.stored = y.stored.after ∙ sym x.stored.after in
+      let rebased : y.rebased ≡ x.rebased = rebased_one new.stored.grammar new.stored.words old.sessions x.rebased y.rebased x.rebases
+      (subst (λ (p : Stored). AreRebasedTo p old.sessions y.rebased) same y.rebases) in
+      state_is its_new new same
+      (y.sessions ∙ ap (λ (ss : List PlainSession). without_article ss word.id) rebased ∙ sym x.sessions) (y.last ∙ sym x.last)
 
-  grammar_alike : (text : List ℕ) → TakesGrammar old text said new → TakesGrammar (at_budget old budget) text its its_new
-      → (its ≡ said) × (its_new ≡ at_budget new budget)
-  grammar_alike text x y =
-      let same : y.g ≡ x.g = same_grammar text y.g x.g y.is x.is in (
-        y.answer ∙ sym x.answer,
-        alike budget _ new its_new x.after
-            (y.after ∙ ap (λ (g : GrammarParts). record old { grammar = g; budget = budget; words = with_terminals old.words g.terminals }) same),
-      )
+  grammar_one : (text : List ℕ) → Does IsSpent old (requests.OnWiki (of_wiki.Grammar text)) said new
+      → Does ItsSpent old (requests.OnWiki (of_wiki.Grammar text)) its its_new → its_new ≡ new
+  grammar_one text x y =
+      let same : y.stored.g ≡ x.stored.g = same_grammar text y.stored.g x.stored.g y.stored.is x.stored.is in
+      words_one _ _ x y (y.stored.after
+      ∙ ap (λ (g : GrammarParts). record old.stored { grammar = g; words = with_terminals old.stored.words g.terminals }) same ∙ sym x.stored.after)
 
-  unword_alike : (text : List ℕ) → RemovesWord old text said new → RemovesWord (at_budget old budget) text its its_new
-      → (its ≡ said) × (its_new ≡ at_budget new budget)
-  unword_alike text x y =
-      let word : y.word ≡ x.word = same_Some y.word x.word (sym y.named ∙ x.named) in (
-        y.answer ∙ sym x.answer,
-        alike budget _ new its_new x.after
-            (y.after ∙ ap (λ (w : WordId). record old { budget = budget; words = without_word old.words w; articles = without_article old.articles w }) word),
-      )
+  article_one : (asked : ArticleRequest) (article : Article) → DoesOnArticle IsSpent asked article old said new
+      → DoesOnArticle ItsSpent asked article old its its_new → its_new ≡ new
+  article_one of_article.Read article x y = y.1 ∙ sym x.1
+  article_one (of_article.Add given text) article x y =
+      let put = λ (s : Status). with_inserted old.stored article.word (place_for article given) (sentence_with old.stored text s) in
+      let status : y.stored.status ≡ x.stored.status =
+      status_one IsSpent ItsSpent (put Asserted) (tokens_of old.stored text) x.stored.status y.stored.status x.stored.gets y.stored.gets
+      (ap tells_spent (sym x.stored.answer) ∙ kept) (ap tells_spent (sym y.stored.answer) ∙ also) in
+      state_is its_new new (y.stored.after ∙ ap put status ∙ sym x.stored.after) (y.sessions ∙ sym x.sessions) (y.last ∙ sym x.last)
+  article_one (of_article.Edit place text) article x y =
+      let put = λ (s : Status). with_replaced old.stored article.word place (sentence_with old.stored text s) in
+      let status : y.stored.status ≡ x.stored.status =
+      status_one IsSpent ItsSpent (put Asserted) (tokens_of old.stored text) x.stored.status y.stored.status x.stored.gets y.stored.gets
+      (ap tells_spent (sym x.stored.answer) ∙ kept) (ap tells_spent (sym y.stored.answer) ∙ also) in
+      state_is its_new new (y.stored.after ∙ ap put status ∙ sym x.stored.after) (y.sessions ∙ sym x.sessions) (y.last ∙ sym x.last)
+  article_one (of_article.Remove place) article x y =
+      state_is its_new new (y.stored.after ∙ sym x.stored.after) (y.sessions ∙ sym x.sessions) (y.last ∙ sym x.last)
+  article_one (of_article.Retract place) article x y =
+      state_is its_new new (y.stored.after ∙ sym x.stored.after) (y.sessions ∙ sym x.sessions) (y.last ∙ sym x.last)
+  article_one (of_article.Reassert place) article x y =
+      let put = λ (s : Status). with_marked old.stored article.word place s in
+      let sentence : y.stored.sentence ≡ x.stored.sentence = same_Some y.stored.sentence x.stored.sentence (sym y.stored.here ∙ x.stored.here) in
+      let gets = subst (λ (s : Sentence). GetStatus ItsSpent (put Asserted) s.tokens y.stored.status) sentence y.stored.gets in
+      let status : y.stored.status ≡ x.stored.status =
+      status_one IsSpent ItsSpent (put Asserted) x.stored.sentence.tokens x.stored.status y.stored.status x.stored.gets gets
+      (ap tells_spent (sym x.stored.answer) ∙ kept) (ap tells_spent (sym y.stored.answer) ∙ also) in
+      state_is its_new new (y.stored.after ∙ ap put status ∙ sym x.stored.after) (y.sessions ∙ sym x.sessions) (y.last ∙ sym x.last)
+  article_one (of_article.Axioms place) article x y = y.1 ∙ sym x.1
+  article_one of_article.Open article x y = y.after ∙ sym x.after
 
-  add_alike : (article : List ℕ) (given : Option ℕ) (text : List ℕ) → AddsSentence old article given text said new
-      → AddsSentence (at_budget old budget) article given text its its_new → tells_spent said ≡ false → tells_spent its ≡ false
-      → (its ≡ said) × (its_new ≡ at_budget new budget)
-  add_alike article given text x y kept also =
-      let word : y.word ≡ x.word = same_Some y.word x.word (sym y.named ∙ x.named) in
-      let place : y.place ≡ x.place = same_Some y.place x.place (sym y.at_place ∙ x.at_place) in
-      let tokens : List (List ℕ) = tokens_of old text in
-      let gets : GetStatus (at_budget (with_inserted old x.word x.place (sentence_with old text Asserted)) budget) tokens y.status =
-      subst (λ (p : ℕ). GetStatus (at_budget (with_inserted old x.word p (sentence_with old text Asserted)) budget) tokens y.status) place
-      (subst (λ (w : WordId). GetStatus (at_budget (with_inserted old w y.place (sentence_with old text Asserted)) budget) tokens y.status) word y.gets) in
+  session_one : (asked : SessionRequest) (session : PlainSession) → DoesOnSession IsSpent asked session old said new
+      → DoesOnSession ItsSpent asked session old its its_new → its_new ≡ new
+  session_one (of_session.Type text) session x y = y.after ∙ sym x.after
+  session_one of_session.Back session x y = y.after ∙ sym x.after
+  session_one of_session.Menu session x y = y.1 ∙ sym x.1
+  session_one of_session.Commit session x y =
+      let put = λ (s : Status). with_appended old.stored session.article session.tokens s in
+      let came = λ (s : Status) (a : Article). record (with_session old session (begun_again a)) { stored = put s } in
+      let article : y.article ≡ x.article = same_Some y.article x.article (sym y.on ∙ x.on) in
       let status : y.status ≡ x.status =
-      status_one (with_inserted old x.word x.place (sentence_with old text Asserted)) budget tokens x.status y.status x.gets gets
-      (ap tells_spent (sym x.answer) ∙ kept) (ap tells_spent (sym y.answer) ∙ also) in (
-        y.answer ∙ ap (λ (s : Status). replies.Add s (shown old.grammar.terminals tokens)) status ∙ sym x.answer,
-        alike budget _ new its_new x.after
-            (y.after ∙ ap (λ (w : WordId). at_budget (with_inserted old w y.place (sentence_with old text y.status)) budget) word
-            ∙ ap (λ (p : ℕ). at_budget (with_inserted old x.word p (sentence_with old text y.status)) budget) place
-            ∙ ap (λ (s : Status). at_budget (with_inserted old x.word x.place (sentence_with old text s)) budget) status),
-      )
+      status_one IsSpent ItsSpent (put Asserted) session.tokens x.status y.status x.gets y.gets (ap tells_spent (sym x.answer) ∙ kept)
+      (ap tells_spent (sym y.answer) ∙ also) in
+      y.after ∙ ap (λ (s : Status). came s y.article) status ∙ ap (λ (a : Article). came x.status a) article ∙ sym x.after
+  session_one of_session.Refresh session x y =
+      let article : y.article ≡ x.article = same_Some y.article x.article (sym y.on ∙ x.on) in
+      y.after ∙ ap (λ (a : Article). with_session old session (with_revision a.revision)) article ∙ sym x.after
+  session_one of_session.Drop session x y = y.after ∙ sym x.after
 
-  edit_alike : (article : List ℕ) (place : ℕ) (text : List ℕ) → EditsSentence old article place text said new
-      → EditsSentence (at_budget old budget) article place text its its_new → tells_spent said ≡ false → tells_spent its ≡ false
-      → (its ≡ said) × (its_new ≡ at_budget new budget)
-  edit_alike article place text x y kept also =
-      let word : y.word ≡ x.word = same_Some y.word x.word (sym y.named ∙ x.named) in
-      let tokens : List (List ℕ) = tokens_of old text in
-      let gets : GetStatus (at_budget (with_replaced old x.word place (sentence_with old text Asserted)) budget) tokens y.status =
-      subst (λ (w : WordId). GetStatus (at_budget (with_replaced old w place (sentence_with old text Asserted)) budget) tokens y.status) word y.gets in
-      let status : y.status ≡ x.status =
-      status_one (with_replaced old x.word place (sentence_with old text Asserted)) budget tokens x.status y.status x.gets gets
-      (ap tells_spent (sym x.answer) ∙ kept) (ap tells_spent (sym y.answer) ∙ also) in (
-        y.answer ∙ ap (λ (s : Status). replies.Edit s (shown old.grammar.terminals tokens)) status ∙ sym x.answer,
-        alike budget _ new its_new x.after
-            (y.after ∙ ap (λ (w : WordId). at_budget (with_replaced old w place (sentence_with old text y.status)) budget) word
-            ∙ ap (λ (s : Status). at_budget (with_replaced old x.word place (sentence_with old text s)) budget) status),
-      )
+  does_one : (request : Request) → Does IsSpent old request said new → Does ItsSpent old request its its_new → its_new ≡ new
+  does_one (requests.OnWiki (of_wiki.Word kind texts)) x y = words_one _ _ x y (y.stored.after ∙ sym x.stored.after)
+  does_one (requests.OnWiki of_wiki.Words) x y = y.1 ∙ sym x.1
+  does_one (requests.OnWiki (of_wiki.Parse text)) x y = y.1 ∙ sym x.1
+  does_one (requests.OnWiki (of_wiki.Grammar text)) x y = grammar_one text x y
+  does_one (requests.OnWord form asked) x y =
+      both (word_with old.stored form) (λ word. DoesOnWord asked word old said new) (λ word. DoesOnWord asked word old its its_new) (its_new ≡ new)
+      (word_one asked) x y
+  does_one (requests.OnArticle form asked) x y =
+      both (article_named old.stored form) (λ article. DoesOnArticle IsSpent asked article old said new)
+      (λ article. DoesOnArticle ItsSpent asked article old its its_new) (its_new ≡ new) (article_one asked) x y
+  does_one (requests.OnSession number asked) x y =
+      both (session_numbered old number) (λ session. DoesOnSession IsSpent asked session old said new)
+      (λ session. DoesOnSession ItsSpent asked session old its its_new) (its_new ≡ new) (session_one asked) x y
 
-  remove_alike : (article : List ℕ) (place : ℕ) → RemovesSentence old article place said new
-      → RemovesSentence (at_budget old budget) article place its its_new → (its ≡ said) × (its_new ≡ at_budget new budget)
-  remove_alike article place x y =
-      let word : y.word ≡ x.word = same_Some y.word x.word (sym y.named ∙ x.named) in (
-        y.answer ∙ sym x.answer,
-        alike budget _ new its_new x.after (y.after ∙ ap (λ (w : WordId). at_budget (with_taken old w place) budget) word),
-      )
+  -- ---- one step
 
-  retract_alike : (article : List ℕ) (place : ℕ) → RetractsSentence old article place said new
-      → RetractsSentence (at_budget old budget) article place its its_new → (its ≡ said) × (its_new ≡ at_budget new budget)
-  retract_alike article place x y =
-      let word : y.word ≡ x.word = same_Some y.word x.word (sym y.named ∙ x.named) in (
-        y.answer ∙ sym x.answer,
-        alike budget _ new its_new x.after (y.after ∙ ap (λ (w : WordId). at_budget (with_marked old w place Retracted) budget) word),
-      )
-
-  reassert_alike : (article : List ℕ) (place : ℕ) → ReassertsSentence old article place said new
-      → ReassertsSentence (at_budget old budget) article place its its_new → tells_spent said ≡ false → tells_spent its ≡ false
-      → (its ≡ said) × (its_new ≡ at_budget new budget)
-  reassert_alike article place x y kept also =
-      let word : y.word ≡ x.word = same_Some y.word x.word (sym y.named ∙ x.named) in
-      let sentence : y.sentence ≡ x.sentence = same_Some y.sentence x.sentence (sym y.here ∙ x.here) in
-      let gets : GetStatus (at_budget (with_marked old x.word place Asserted) budget) x.sentence.tokens y.status =
-      subst (λ (s : Sentence). GetStatus (at_budget (with_marked old x.word place Asserted) budget) s.tokens y.status) sentence
-      (subst (λ (w : WordId). GetStatus (at_budget (with_marked old w place Asserted) budget) y.sentence.tokens y.status) word y.gets) in
-      let status : y.status ≡ x.status =
-      status_one (with_marked old x.word place Asserted) budget x.sentence.tokens x.status y.status x.gets gets
-      (ap tells_spent (sym x.answer) ∙ kept) (ap tells_spent (sym y.answer) ∙ also) in (
-        y.answer ∙ ap (λ (s : Status). replies.Reassert s) status ∙ sym x.answer,
-        alike budget _ new its_new x.after
-            (y.after ∙ ap (λ (w : WordId). at_budget (with_marked old w place y.status) budget) word
-            ∙ ap (λ (s : Status). at_budget (with_marked old x.word place s) budget) status),
-      )
-
-  does_alike : (request : Request) → Does old request said new → Does (at_budget old budget) request its its_new → tells_spent said ≡ false
-      → tells_spent its ≡ false → ComesAlike request budget said its new its_new
-  does_alike (requests.Word kind texts) x y kept also = word_alike kind texts x y
-  does_alike (requests.Find text) x y kept also = (tt, alike budget old new its_new x.after y.after)
-  does_alike requests.Words x y kept also = (tt, alike budget old new its_new x.after y.after)
-  does_alike (requests.Parse text) x y kept also = (tt, alike budget old new its_new x.after y.after)
-  does_alike (requests.Reword text texts) x y kept also = reword_alike text texts x y
-  does_alike (requests.Unword text) x y kept also = unword_alike text x y
-  does_alike (requests.Grammar text) x y kept also = grammar_alike text x y
-  does_alike (requests.Add article given text) x y kept also = add_alike article given text x y kept also
-  does_alike (requests.Edit article place text) x y kept also = edit_alike article place text x y kept also
-  does_alike (requests.Remove article place) x y kept also = remove_alike article place x y
-  does_alike (requests.Retract article place) x y kept also = retract_alike article place x y
-  does_alike (requests.Reassert article place) x y kept also = reassert_alike article place x y kept also
-  does_alike (requests.Read article) x y kept also = (tt, alike budget old new its_new x.after y.after)
-  does_alike (requests.Axioms article place) x y kept also = (tt, alike budget old new its_new x.after y.after)
-  does_alike request x y kept also = absurd x
-
--- ---- what stands against a request stands against it whatever the budget
-
--- the causes of the one list are those of the other, in order
-abbrev pub AreAlike : List (Refusal → Type 0) → List (Refusal → Type 0) → Type 0
-AreAlike [] [] = Unit {0}
-AreAlike [] (b ∷ others) = ⊥
-AreAlike (a ∷ causes) [] = ⊥
-AreAlike (a ∷ causes) (b ∷ others) = ((refusal : Refusal) → a refusal → b refusal) × ((refusal : Refusal) → b refusal → a refusal) × AreAlike causes others
-
-pub first_alike : (causes others : List (Refusal → Type 0)) → AreAlike causes others → (refusal : Refusal) → FirstOf causes refusal → FirstOf others refusal
-first_alike [] [] same refusal first = first
-first_alike [] (b ∷ others) same refusal first = absurd same
-first_alike (a ∷ causes) [] same refusal first = absurd same
-first_alike (a ∷ causes) (b ∷ others) same refusal (inl here) = inl (same.0 refusal here)
-first_alike (a ∷ causes) (b ∷ others) same refusal (inr (none, later)) =
-    inr (λ other h. none other (same.1 other h), first_alike causes others same.2 refusal later)
-
--- a cause that doesn't look at the budget
-abbrev IsBlind : (State → Refusal → Type 0) → Type 0
-IsBlind cause = (state : State) (budget : ℕ) (refusal : Refusal) → cause state refusal → cause (at_budget state budget) refusal
-
-no_word : (text : List ℕ) → IsBlind (λ state. NamesNoWord state text)
-no_word text state budget refusal h = record { none = h.none; told = h.told }
-
-bad_reword : (text : List ℕ) (texts : List (List ℕ)) → IsBlind (λ state. IsBadReword state text texts)
-bad_reword text texts state budget refusal h = record { word = h.word; named = h.named; old = h.old; of_word = h.of_word; told = h.told }
-
-told_at : (state : State) (budget : ℕ) (tell : List ℕ → ℕ → Refusal) (word : WordId) (place : ℕ) (refusal : Refusal)
-    → TellsPlace state tell word place refusal → TellsPlace (at_budget state budget) tell word place refusal
-told_at state budget tell word place refusal h = record { form = h.form; spelled = h.spelled; told = h.told }
-
-breaks : (text : List ℕ) (texts : List (List ℕ)) → IsBlind (λ state. BreaksSentence state text texts)
-breaks text texts state budget refusal h = record {
-  word = h.word;
-  named = h.named;
-  old = h.old;
-  of_word = h.of_word;
-  first = h.first;
-  breaks = h.breaks;
-  told = told_at state budget _ h.first.word h.first.place refusal h.told;
-}
-
-no_grammar : (text : List ℕ) → IsBlind (λ state. IsNoGrammar text)
-no_grammar text state budget refusal h = h
-
-bare : (text : List ℕ) → IsBlind (λ state. IsBare text)
-bare text state budget refusal h = h
-
-has_form : (text : List ℕ) → IsBlind (λ state. HasForm state text)
-has_form text state budget refusal h = record { g = h.g; is = h.is; told = h.told }
-
-breaks_by : (text : List ℕ) → IsBlind (λ state. BreaksByGrammar state text)
-breaks_by text state budget refusal h = record {
-  g = h.g;
-  is = h.is;
-  first = h.first;
-  breaks = h.breaks;
-  told = told_at state budget _ h.first.word h.first.place refusal h.told;
-}
-
-in_use : (text : List ℕ) → IsBlind (λ state. IsInUse state text)
-in_use text state budget refusal h = record {
-  word = h.word;
-  named = h.named;
-  forms = h.forms;
-  of_word = h.of_word;
-  first = h.first;
-  uses = h.uses;
-  told = told_at state budget _ h.first.word h.first.place refusal h.told;
-}
-
-no_sentence_at : (text : List ℕ) (place : ℕ) → IsBlind (λ state. HasNoSentenceAt state text place)
-no_sentence_at text place state budget refusal h = record { article = h.article; named = h.named; past = h.past; told = h.told }
-
-past_end : (text : List ℕ) (given : Option ℕ) → IsBlind (λ state. IsPastEnd state text given)
-past_end text given state budget refusal h =
-    record { article = h.article; named = h.named; place = h.place; is = h.is; past = h.past; told = h.told }
-
-full : IsBlind IsFullOfSentences
-full state budget refusal h = record { full = h.full; told = h.told }
-
-too_many : (text : List ℕ) → IsBlind (λ state. HasTooManyTokens state text)
-too_many text state budget refusal h = record { many = h.many; told = h.told }
-
-last_revision : (text : List ℕ) → IsBlind (λ state. IsAtLastRevision state text)
-last_revision text state budget refusal h = record { article = h.article; named = h.named; last = h.last; told = h.told }
-
-no_derivation : (text : List ℕ) → IsBlind (λ state. HasNoDerivation state text)
-no_derivation text state budget refusal h = h
-
-bad_status : (may : Status → Bool) (text : List ℕ) (place : ℕ) → IsBlind (λ state. HasBadStatus state may text place)
-bad_status may text place state budget refusal h = record { sentence = h.sentence; here = h.here; not_so = h.not_so; told = h.told }
-
--- causes that don't look at the budget, and those that they are in a wiki
-abbrev AreBlind : List (State → Refusal → Type 0) → Type 0
-AreBlind [] = Unit {0}
-AreBlind (cause ∷ causes) = IsBlind cause × AreBlind causes
-
-abbrev all_in : State → List (State → Refusal → Type 0) → List (Refusal → Type 0)
-all_in state [] = []
-all_in state (cause ∷ causes) = cause state ∷ all_in state causes
-
-blind_alike : (causes : List (State → Refusal → Type 0)) → AreBlind causes → (old : State) (budget : ℕ)
-    → AreAlike (all_in old causes) (all_in (at_budget old budget) causes)
-blind_alike [] blind old budget = tt
-blind_alike (cause ∷ causes) blind old budget = (blind.0 old budget, blind.0 (at_budget old budget) old.budget, blind_alike causes blind.1 old budget)
-
-first_blind : (causes : List (State → Refusal → Type 0)) → AreBlind causes → (old : State) (budget : ℕ) (refusal : Refusal)
-    → FirstOf (all_in old causes) refusal → FirstOf (all_in (at_budget old budget) causes) refusal
-first_blind causes blind old budget = first_alike (all_in old causes) (all_in (at_budget old budget) causes) (blind_alike causes blind old budget)
-
-module _ (old : State) (budget : ℕ) where
-  -- what stands against a request stands against it whatever the budget
-  pub refuses_alike : (request : Request) (refusal : Refusal) → Refuses old request refusal → Refuses (at_budget old budget) request refusal
-  refuses_alike (requests.Word kind texts) refusal h = h
-  refuses_alike (requests.Find text) refusal h = no_word text old budget refusal h
-  refuses_alike requests.Words refusal h = absurd h
-  refuses_alike (requests.Parse text) refusal h = h
-  refuses_alike (requests.Reword text texts) refusal h =
-      first_blind ((λ s. NamesNoWord s text) ∷ (λ s. IsBadReword s text texts) ∷ (λ s. BreaksSentence s text texts) ∷ [])
-      (no_word text, (bad_reword text texts, (breaks text texts, tt))) old budget refusal h
-  refuses_alike (requests.Grammar text) refusal h =
-      first_blind ((λ s. IsNoGrammar text) ∷ (λ s. IsBare text) ∷ (λ s. HasForm s text) ∷ (λ s. BreaksByGrammar s text) ∷ [])
-      (no_grammar text, (bare text, (has_form text, (breaks_by text, tt)))) old budget refusal h
-  refuses_alike (requests.Unword text) refusal h =
-      first_blind ((λ s. NamesNoWord s text) ∷ (λ s. IsInUse s text) ∷ []) (no_word text, (in_use text, tt)) old budget refusal h
-  refuses_alike (requests.Add article given text) refusal h =
-      first_blind ((λ s. NamesNoWord s article) ∷ (λ s. IsPastEnd s article given) ∷ IsFullOfSentences ∷ (λ s. HasTooManyTokens s text)
-      ∷ (λ s. IsAtLastRevision s article) ∷ (λ s. HasNoDerivation s text) ∷ [])
-      (no_word article, (past_end article given, (full, (too_many text, (last_revision article, (no_derivation text, tt)))))) old budget refusal h
-  refuses_alike (requests.Edit article place text) refusal h =
-      first_blind ((λ s. NamesNoWord s article) ∷ (λ s. HasNoSentenceAt s article place) ∷ (λ s. HasTooManyTokens s text)
-      ∷ (λ s. IsAtLastRevision s article) ∷ (λ s. HasNoDerivation s text) ∷ [])
-      (no_word article, (no_sentence_at article place, (too_many text, (last_revision article, (no_derivation text, tt))))) old budget refusal h
-  refuses_alike (requests.Remove article place) refusal h =
-      first_blind ((λ s. NamesNoWord s article) ∷ (λ s. HasNoSentenceAt s article place) ∷ (λ s. IsAtLastRevision s article) ∷ [])
-      (no_word article, (no_sentence_at article place, (last_revision article, tt))) old budget refusal h
-  refuses_alike (requests.Retract article place) refusal h =
-      first_blind ((λ s. NamesNoWord s article) ∷ (λ s. HasNoSentenceAt s article place) ∷ (λ s. IsAtLastRevision s article)
-      ∷ (λ s. HasBadStatus s may_retract article place) ∷ [])
-      (no_word article, (no_sentence_at article place, (last_revision article, (bad_status may_retract article place, tt)))) old budget refusal h
-  refuses_alike (requests.Reassert article place) refusal h =
-      first_blind ((λ s. NamesNoWord s article) ∷ (λ s. HasNoSentenceAt s article place) ∷ (λ s. IsAtLastRevision s article)
-      ∷ (λ s. HasBadStatus s may_reassert article place) ∷ [])
-      (no_word article, (no_sentence_at article place, (last_revision article, (bad_status may_reassert article place, tt)))) old budget refusal h
-  refuses_alike (requests.Read article) refusal h = no_word article old budget refusal h
-  refuses_alike (requests.Axioms article place) refusal h =
-      first_blind ((λ s. NamesNoWord s article) ∷ (λ s. HasNoSentenceAt s article place) ∷ [])
-      (no_word article, (no_sentence_at article place, tt)) old budget refusal h
-  refuses_alike request refusal h = absurd h
-
--- ---- one step
-
--- both are refused, or both are done and come to the same
-abbrev pub BothAlike : State → ℕ → Request → Reply → Reply → State → State → Type 0
-BothAlike old budget request said its new its_new =
-    (IsRefused old request said new × IsRefused (at_budget old budget) request its its_new)
-    ⊎ ((IsDone old request said new × IsDone (at_budget old budget) request its its_new) × ComesAlike request budget said its new its_new)
-
-pub both_alike : (old : State) (budget : ℕ) (request : Request) (said its : Reply) (new its_new : State) → Step old request said new
-    → Step (at_budget old budget) request its its_new → tells_spent said ≡ false → tells_spent its ≡ false
-    → BothAlike old budget request said its new its_new
-both_alike old budget request said its new its_new step its_step kept also_kept =
-    by (outcome old request said new step) (outcome (at_budget old budget) request its its_new its_step)
-  where
-    by : IsRefused old request said new ⊎ IsDone old request said new
-        → IsRefused (at_budget old budget) request its its_new ⊎ IsDone (at_budget old budget) request its its_new
-        → BothAlike old budget request said its new its_new
-    by (inl refused) (inl its_refused) = inl (refused, its_refused)
-    by (inl refused) (inr its_done) = absurd (its_done.0 refused.0 (refuses_alike old budget request refused.0 refused.2))
-    by (inr done) (inl its_refused) =
-        absurd (done.0 its_refused.0 (refuses_alike (at_budget old budget) old.budget request its_refused.0 its_refused.2))
-    by (inr done) (inr its_done) =
-        inr ((done, its_done), does_alike old budget said its new its_new request done.1 its_done.1 kept also_kept)
-
--- Words and sentences are a function of what is asked, whatever the budgets, where none is spent.
-pub store_one : (old : State) (budget : ℕ) (request : Request) (said its : Reply) (new its_new : State) → Step old request said new
-    → Step (at_budget old budget) request its its_new → tells_spent said ≡ false → tells_spent its ≡ false → its_new ≡ at_budget new budget
-store_one old budget request said its new its_new step its_step kept also_kept =
-    by (both_alike old budget request said its new its_new step its_step kept also_kept)
-  where
-    by : BothAlike old budget request said its new its_new → its_new ≡ at_budget new budget
-    by (inl (refused, its_refused)) = alike budget old new its_new refused.3 its_refused.3
-    by (inr (done, comes)) = comes.1
+  pub step_one : (request : Request) → Step IsSpent old request said new → Step ItsSpent old request its its_new → its_new ≡ new
+  step_one request step its_step = by (outcome IsSpent old request said new step) (outcome ItsSpent old request its its_new its_step)
+    where
+      by : IsRefused old request said new ⊎ IsDone IsSpent old request said new
+          → IsRefused old request its its_new ⊎ IsDone ItsSpent old request its its_new → its_new ≡ new
+      by (inl refused) (inl its_refused) = its_refused.3 ∙ sym refused.3
+      by (inl refused) (inr its_done) = absurd (its_done.0 refused.0 refused.2)
+      by (inr done) (inl its_refused) = absurd (done.0 its_refused.0 its_refused.2)
+      by (inr done) (inr its_done) = does_one request done.1 its_done.1

@@ -1,22 +1,15 @@
 -- What becomes of words and of the articles that sessions are on, by a step on words and sentences.
-use Rattle.std.proofs.Common.{◌≡◌, ℕ, ◌≤◌, ◌==◌, ◌⊎◌, Bool, true, false, not, cond, List, [], ◌∷◌, ◌++◌, find, Option, option_map, refl, sym, ap, subst, ◌∙◌, arith, inl, inr}
+use Rattle.std.proofs.Common.{◌≡◌, ℕ, ◌≤◌, ◌==◌, Bool, true, false, not, cond, List, [], ◌∷◌, ◌++◌, find, Option, option_map, refl, sym, ap, subst, ◌∙◌, arith}
 use Rattle.std.specs.Option.{option_or}
-use Rattle.std.proofs.lemmas.Bool.{false≢true, eqb-true}
+use Rattle.std.proofs.lemmas.Bool.{eqb-true}
 use Rattle.std.proofs.lemmas.List.Folds.{find-append}
 use Rattle.wiki_base.specs.declared.numbers.WordId.{WordId}
-use Rattle.wiki_talk.specs.declared.refusals.Refusal.{Refusal}
-use Rattle.wiki_talk.specs.declared.replies.Reply.{Reply}
-use Rattle.wiki_talk.specs.declared.replies.Reply.TheVariants as replies
-use Rattle.wiki_talk.specs.declared.requests.Request.{Request}
-use Rattle.wiki_talk.specs.declared.requests.Request.TheVariants as requests
 use Rattle.articles.specs.declared.sentences.Sentence.{Sentence}
 use Rattle.articles.specs.declared.article.Article.{Article}
 use Rattle.articles.specs.Articles.{is_of, changed, with_change, without_article}
-use Rattle.sessions.specs.Sessions.{PlainSession}
-use Rattle.wiki_parts.specs.State as parts
-use Rattle.wiki_store.specs.Step as store
-use Rattle.wiki_core.specs.State.{IsOnArticle}
-use Rattle.wiki_core.specs.Keeping.{changes_words}
+use Rattle.plain_wiki.specs.Sessions.{PlainSession}
+use Rattle.plain_wiki.specs.State.{Stored}
+use Rattle.wiki_core.specs.Holding.{IsOnArticle}
 use Rattle.wiki_core.proofs.KeyLaws.{changed_at, find_changed, find_filter}
 
 -- a session that was on an article is on it still
@@ -61,58 +54,19 @@ go_on_ended old word session other on = record {
     stays a is = ap (λ (n : ℕ). not (n == word.0)) (eqb-true a.word.0 session.article.0 is) ∙ ap not other
 
 -- what a step that changes no words leaves of words, and of the articles that sessions are on
-pub record KeepsWords (old new : parts.State) : Type 0 where
+pub record KeepsWords (old new : Stored) : Type 0 where
   pub grammar : new.grammar ≡ old.grammar
   pub words : new.words ≡ old.words
   pub on : GoOn old.articles new.articles
 
-pub keeps_same : (old new : parts.State) → new ≡ old → KeepsWords old new
+pub keeps_same : (old new : Stored) → new ≡ old → KeepsWords old new
 keeps_same old new same = record {
-  grammar = ap (λ (s : parts.State). s.grammar) same;
-  words = ap (λ (s : parts.State). s.words) same;
-  on = go_on_same old.articles new.articles (ap (λ (s : parts.State). s.articles) same);
+  grammar = ap (λ (s : Stored). s.grammar) same;
+  words = ap (λ (s : Stored). s.words) same;
+  on = go_on_same old.articles new.articles (ap (λ (s : Stored). s.articles) same);
 }
 
-pub keeps_changed : (old new : parts.State) (word : WordId) (change : List Sentence → List Sentence)
+pub keeps_changed : (old new : Stored) (word : WordId) (change : List Sentence → List Sentence)
     → new ≡ record old { articles = with_change old.articles word change } → KeepsWords old new
 keeps_changed old new word change after =
     subst (KeepsWords old) (sym after) (record { grammar = refl; words = refl; on = go_on_changed old.articles word change })
-
-does_keeps : (old new : parts.State) (request : Request) (reply : Reply) → changes_words request ≡ false → store.Does old request reply new → KeepsWords old new
-does_keeps old new (requests.Word kind forms) reply no_words does = absurd (false≢true (sym no_words))
-does_keeps old new (requests.Find word) reply no_words does = keeps_same old new does.after
-does_keeps old new requests.Words reply no_words does = keeps_same old new does.after
-does_keeps old new (requests.Parse text) reply no_words does = keeps_same old new does.after
-does_keeps old new (requests.Reword form forms) reply no_words does = absurd (false≢true (sym no_words))
-does_keeps old new (requests.Unword form) reply no_words does = absurd (false≢true (sym no_words))
-does_keeps old new (requests.Grammar text) reply no_words does = absurd (false≢true (sym no_words))
-does_keeps old new (requests.Add article given text) reply no_words does = keeps_changed old new does.word _ does.after
-does_keeps old new (requests.Edit article place text) reply no_words does = keeps_changed old new does.word _ does.after
-does_keeps old new (requests.Remove article place) reply no_words does = keeps_changed old new does.word _ does.after
-does_keeps old new (requests.Retract article place) reply no_words does = keeps_changed old new does.word _ does.after
-does_keeps old new (requests.Reassert article place) reply no_words does = keeps_changed old new does.word _ does.after
-does_keeps old new (requests.Read article) reply no_words does = keeps_same old new does.after
-does_keeps old new (requests.Axioms article place) reply no_words does = keeps_same old new does.after
-does_keeps old new (requests.Begin article) reply no_words does = absurd does
-does_keeps old new (requests.Put session text) reply no_words does = absurd does
-does_keeps old new (requests.Back session) reply no_words does = absurd does
-does_keeps old new (requests.Menu session) reply no_words does = absurd does
-does_keeps old new (requests.Commit session) reply no_words does = absurd does
-does_keeps old new (requests.Refresh session) reply no_words does = absurd does
-does_keeps old new (requests.Drop session) reply no_words does = absurd does
-
--- a step is a refusal, which changes nothing, or does what is asked
-pub refused_or_done : (old new : parts.State) (request : Request) (reply : Reply) → store.Step old request reply new
-    → ((refusal : Refusal) × (reply ≡ replies.Refused refusal) × (new ≡ old)) ⊎ (store.IsFree old request × store.Does old request reply new)
-refused_or_done old new request (replies.Refused refusal) step = inl (refusal, refl, step.1)
-refused_or_done old new request reply step = inr step
-
--- a step that changes no words keeps them
-pub step_keeps : (old new : parts.State) (request : Request) (reply : Reply) → changes_words request ≡ false → store.Step old request reply new
-    → KeepsWords old new
-step_keeps old new request reply no_words step = by_case (refused_or_done old new request reply step)
-  where
-    by_case : ((refusal : Refusal) × (reply ≡ replies.Refused refusal) × (new ≡ old)) ⊎ (store.IsFree old request × store.Does old request reply new)
-        → KeepsWords old new
-    by_case (inl refused) = keeps_same old new refused.2
-    by_case (inr done) = does_keeps old new request reply no_words done.1

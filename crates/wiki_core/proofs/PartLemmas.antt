@@ -25,11 +25,11 @@ use Rattle.articles.specs.declared.article.Article.{Article}
 use Rattle.articles.specs.Articles.{article_of, sentence_at}
 use Rattle.wiki_parts.specs.declared.meanings.Sense.{Sense}
 use Rattle.wiki_parts.specs.Found.{meaning_shown}
-use Rattle.wiki_parts.specs.State.{State}
+use Rattle.plain_wiki.specs.State.{Stored}
 use Rattle.wiki_parts.specs.Kept.{stated_by, meanings_in, MeanEach, MeanInEach}
-use Rattle.wiki_parts.specs.Knowledge.{live_names}
-use Rattle.wiki_parts.specs.Meanings.{Meaning, stating, outside, asking, asking_outside, Means}
-use Rattle.wiki_parts.specs.Places.{Placed, placed_from, placed_in, all_placed, told_place}
+use Rattle.plain_wiki.specs.Knowledge.{live_names}
+use Rattle.plain_wiki.specs.Meanings.{Meaning, stating, outside, asking, asking_outside, Means}
+use Rattle.plain_wiki.specs.Places.{Placed, placed_from, placed_in, all_placed, told_place}
 use Rattle.wiki_parts.proofs.OverLemmas.{stated_plain, stated_over, asked_plain, asked_over}
 use Rattle.wiki_core.specs.Counting.{PlainPart, plain_part, plain_parts, part_at, in_article, parts_from, parts_in}
 use Rattle.wiki_core.specs.Parts.{is_counted, counted, States, place_of, AreParts, asked_by, IsFitClass}
@@ -187,7 +187,7 @@ plain_claims [] = refl
 plain_claims (part ∷ parts) = ap (λ (css : List (List Claim)). claims_of part.axioms ∷ css) (plain_claims parts)
 
 -- the parts that are made of the meanings that are kept are those of the wiki
-pub are_parts : (state : State) (taken : Option Place) (senses : List (List Sense)) (parts : List Part) → IsSound state.grammar
+pub are_parts : (state : Stored) (taken : Option Place) (senses : List (List Sense)) (parts : List Part) → IsSound state.grammar
     → AllPairs SharesNoForm state.words.live
     → MeanInEach state.grammar state.words state.articles senses → plain_parts parts ≡ parts_in taken state.articles senses → AreParts state taken parts
 are_parts state taken senses parts sound apart mean is =

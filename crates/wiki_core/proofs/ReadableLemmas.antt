@@ -24,9 +24,9 @@ use Rattle.lexicon.proofs.Owners.{owner_lives, owner-add_refusal, add_refusal_na
 use Rattle.derivations.specs.Among.{Among}
 use Rattle.derivations.proofs.GrowLemmas.{Each}
 use Rattle.wiki_talk.specs.declared.refusals.Refusal.TheVariants.{Taken, Reserved}
-use Rattle.wiki_parts.specs.Words.{canonical, bad_text, bad_count, lexicon_refusal, full_refusal, forms_given, word_refusal}
-use Rattle.wiki_parts.specs.Refusing.{reword_cause}
-use Rattle.wiki_store.proofs.RewordLemmas.{forms_free, taken_lives, reword_names_none, lives_by}
+use Rattle.plain_wiki.specs.Words.{canonical, bad_text, bad_count, lexicon_refusal, full_refusal, forms_given, word_refusal}
+use Rattle.plain_wiki.specs.Causes.{reword_cause}
+use Rattle.wiki_store.proofs.RewordLemmas.{forms_free, taken_lives, reword_names_none}
 use Rattle.wiki_core.proofs.FormLemmas.{IsForm, each_among, forms_of_texts}
 
 -- Each form of a live word is a whole token of at most 64 bytes, and no terminal, nor one with its first letter raised; and what two
@@ -341,20 +341,19 @@ readable_word words kind texts utf8 none are =
     readable_with words.terminals words.live (next_word words (forms_given kind texts)) are given.each given.untaken given.unreserved
 
 -- and so do other forms of a word
-pub readable_reword : (words : Listed) (id : WordId) (old : Forms) (texts : List (List ℕ)) → forms_of words.live id ≡ Some old → All IsUtf8 texts
-    → reword_cause words id old.kind texts ≡ None → AreReadable words.terminals words.live
-    → AreReadable words.terminals (with_forms words id (forms_given old.kind texts)).live
-readable_reword words id old texts of_word utf8 none are =
-    let forms = forms_given old.kind texts in
-    let lives : IsSome (forms_of words.live id) = lives_by (forms_of words.live id) old of_word in
-    let outer = option_or-none (bad_text texts) (option_or (bad_count old.kind texts) (lexicon_refusal words (reword_refusal words id forms))) none in
-    let inner = option_or-none (bad_count old.kind texts) (lexicon_refusal words (reword_refusal words id forms)) outer.1 in
+pub readable_reword : (words : Listed) (id : WordId) (kind : Kind) (texts : List (List ℕ)) → IsSome (forms_of words.live id) → All IsUtf8 texts
+    → reword_cause words id kind texts ≡ None → AreReadable words.terminals words.live
+    → AreReadable words.terminals (with_forms words id (forms_given kind texts)).live
+readable_reword words id kind texts lives utf8 none are =
+    let forms = forms_given kind texts in
+    let outer = option_or-none (bad_text texts) (option_or (bad_count kind texts) (lexicon_refusal words (reword_refusal words id forms))) none in
+    let inner = option_or-none (bad_count kind texts) (lexicon_refusal words (reword_refusal words id forms)) outer.1 in
     let told : is_told (reword_refusal words id forms) ≡ true = is_told_there forms lives in
     let refused = none_told words (reword_refusal words id forms) told (λ text other is. taken_lives words id forms text other lives is)
     (λ other is. reword_names_none words id forms lives other is) inner.1 in
     let free = forms_free words id forms lives refused in
     let both = option_or-none (first_taken (others words.live id) forms.texts) (first_reserved words.terminals forms.texts) free in
-    readable_with_forms words.terminals words.live id forms are (forms_of_texts old.kind texts outer.0 inner.0 utf8) both.0 both.1
+    readable_with_forms words.terminals words.live id forms are (forms_of_texts kind texts outer.0 inner.0 utf8) both.0 both.1
   where
     is_told_there : (forms : Forms) → IsSome (forms_of words.live id) → is_told (reword_refusal words id forms) ≡ true
     is_told_there forms lives = by (forms_of words.live id) lives

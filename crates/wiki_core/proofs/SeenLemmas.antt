@@ -8,7 +8,7 @@ use Rattle.wiki_base.specs.declared.numbers.SessionId.{SessionId}
 use Rattle.codeco_terms.specs.GrammarParts.{GrammarParts}
 use Rattle.lexicon.specs.Words.{Listed}
 use Rattle.editor.specs.Rebasing.{IsRebased}
-use Rattle.sessions.specs.Sessions.{PlainSession, has_number, session_of, with_change, without_session, without_article, is_on, AreRebased}
+use Rattle.plain_wiki.specs.Sessions.{PlainSession, has_number, session_of, with_change, without_session, without_article, is_on, AreRebased}
 use Rattle.wiki_core.proofs.KeyLaws.{changed_at, key_stays, find_changed, find_filter, find_filtered, found_passes}
 
 -- a session as it is seen from outside of its article: the word of that, and the tokens

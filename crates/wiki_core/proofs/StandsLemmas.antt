@@ -1,43 +1,57 @@
 -- What stands after a run stands after its changes.
-use Rattle.std.proofs.Common.{◌≡◌, ℕ, ◌+◌, ◌-◌, ◌<◌, ◌≤◌, ◌++◌, ◌||◌, Bool, true, false, not, cond, List, [], ◌∷◌, length, take, min, filter, ◌⊎◌, inl, inr, Option, Some, None, All, refl, sym, ap, subst, ◌∙◌, arith, length-append}
-use Rattle.std.specs.Prelude.{MatchBool}
+use Rattle.std.proofs.Common.{◌≡◌, ℕ, ◌+◌, ◌-◌, ◌<◌, ◌≤◌, ◌++◌, ◌||◌, Bool, true, false, not, cond, List, [], ◌∷◌, length, take, min, filter, ◌⊎◌, inl, inr, Option, Some, None, option_map, IsSome, All, refl, sym, ap, subst, ◌∙◌, arith, length-append}
 use Rattle.std.specs.List.{list_any}
+use Rattle.std.specs.Str.{IsUtf8}
 use Rattle.std.proofs.lemmas.Bool.{false≢true, eqb-true, cases_lt}
 use Rattle.std.proofs.lemmas.List.{length-take}
 use Rattle.std.proofs.lemmas.List.Elements.{All-head, All-tail}
-use Rattle.std.proofs.lemmas.Option.{none-some, same_Some}
+use Rattle.std.proofs.lemmas.Option.{same_Some}
+use Rattle.wiki_base.specs.declared.numbers.SessionId.{SessionId}
 use Rattle.codeco_terms.specs.GrammarParts.{GrammarParts}
 use Rattle.codeco_checked.specs.Sound.{IsSound}
 use Rattle.codeco_reader.proofs.OneGrammar.{text_sound}
-use Rattle.lexicon.specs.Words.{Listed, with_word, with_forms, without_word, with_terminals, reground_refusal}
+use Rattle.lexicon.specs.declared.kinds.Kind.{Kind}
+use Rattle.lexicon.specs.declared.words.Word.{Word}
+use Rattle.lexicon.specs.Words.{Listed, forms_of, with_word, with_forms, without_word, with_terminals, reground_refusal}
+use Rattle.lexicon.proofs.Owners.{owner_lives}
 use Rattle.editor.specs.Editing.{typed}
-use Rattle.sessions.specs.Sessions.{PlainSession, new_session, has_number, session_of, is_on, with_change, with_tokens, with_revision, AreRebased}
+use Rattle.derivations.proofs.GrowLemmas.{Each}
+use Rattle.wiki_talk.specs.declared.refusals.Refusal.TheVariants.{NoWord, NoSession}
 use Rattle.wiki_talk.specs.declared.replies.Reply.{Reply}
 use Rattle.wiki_talk.specs.declared.requests.Request.{Request}
 use Rattle.wiki_talk.specs.declared.requests.Request.TheVariants as requests
+use Rattle.wiki_talk.specs.declared.requests.WikiRequest.{WikiRequest}
+use Rattle.wiki_talk.specs.declared.requests.WikiRequest.TheVariants as of_wiki
+use Rattle.wiki_talk.specs.declared.requests.WordRequest.{WordRequest}
+use Rattle.wiki_talk.specs.declared.requests.WordRequest.TheVariants as of_word
+use Rattle.wiki_talk.specs.declared.requests.ArticleRequest.{ArticleRequest}
+use Rattle.wiki_talk.specs.declared.requests.ArticleRequest.TheVariants as of_article
+use Rattle.wiki_talk.specs.declared.requests.SessionRequest.{SessionRequest}
+use Rattle.wiki_talk.specs.declared.requests.SessionRequest.TheVariants as of_session
 use Rattle.wiki_talk.specs.declared.limits.Limit.TheVariants as limits
 use Rattle.wiki_talk.specs.Turns.{Exchange, answered, no_request, Turns}
-use Rattle.wiki_parts.specs.State as parts
-use Rattle.wiki_parts.specs.Words.{forms_given, full_at, word_refusal, lexicon_refusal}
-use Rattle.wiki_parts.specs.Faults.{IsAbsent}
-use Rattle.wiki_parts.specs.Refusing.{FirstOf, NamesNoWord, IsBadReword, BreaksSentence, IsNoGrammar, IsBare, HasForm, BreaksByGrammar, reword_cause}
-use Rattle.wiki_store.specs.Step as store
-use Rattle.wiki_store.specs.Step.{asks_store}
-use Rattle.derivations.proofs.GrowLemmas.{Each}
-use Rattle.wiki_core.specs.State.{State, first_state}
-use Rattle.wiki_core.specs.Causes.{session_numbered}
-use Rattle.wiki_core.specs.Step.{Step, StepsPages, StepsSession, CarriesSessions, EndOnArticle, IsFree, begun_again, numbered}
-use Rattle.wiki_core.specs.Journaled.{changes_of, asked_of, tells_spent, is_spent_in, SpendsNone, GivesUtf8, GivesUnraised, NoneIsRaised, StandAlike, StandsAgain}
+use Rattle.articles.specs.declared.article.Article.{Article}
+use Rattle.plain_wiki.specs.Sessions.{PlainSession, new_session, has_number, session_of, is_on, with_change, with_tokens, with_revision, AreRebased}
+use Rattle.plain_wiki.specs.State.{Stored, State, first_state}
+use Rattle.plain_wiki.specs.Words.{forms_given, full_at, word_refusal, lexicon_refusal}
+use Rattle.plain_wiki.specs.Places.{word_with, article_named, session_numbered, numbered}
+use Rattle.plain_wiki.specs.Knowledge.{Spending}
+use Rattle.plain_wiki.specs.Causes.{NoneOf, is_no_grammar, is_bare, has_a_form, breaks_by_grammar, reword_cause}
+use Rattle.plain_wiki.specs.Against.{against_wiki, against_word, against_session, IsFree}
+use Rattle.plain_wiki.specs.Doing.{AddsWord, RewordsWord, RemovesWord, TakesGrammar, begun_again}
+use Rattle.plain_wiki.specs.Step.{ChangesStored, ChangesWords, DoesOnWiki, DoesOnWord, DoesOnArticle, DoesOnSession, Does, Step}
+use Rattle.wiki_parts.specs.Spending.{IsCutOff}
+use Rattle.wiki_core.specs.Journaled.{own_change, changes_of, asked_of, tells_spent, is_spent_in, SpendsNone, GivesUtf8, GivesUnraised, NoneIsRaised, StandsAgain}
 use Rattle.wiki_core.proofs.SeenLemmas.{RiseTo}
+use Rattle.wiki_core.proofs.NamedLemmas.{some_is, number_is}
+use Rattle.wiki_core.proofs.StepLemmas.{IsRefused, IsDone, outcome}
 use Rattle.wiki_core.proofs.RunLemmas.{IsApt}
 use Rattle.wiki_core.proofs.ApartLemmas.{open_step}
+use Rattle.wiki_core.proofs.OneStepLemmas.{step_one}
+use Rattle.wiki_core.proofs.GrammarLemmas.{KeepsReading, article_keeps, session_keeps}
 use Rattle.wiki_core.proofs.ReadableLemmas.{AreReadable, no_words, readable_word, readable_reword, readable_without, readable_beside}
 use Rattle.wiki_core.proofs.ReadyLemmas.{AreReady}
-use Rattle.wiki_core.proofs.OneStepLemmas as one
-use Rattle.wiki_core.proofs.OneStepLemmas.{at_budget, store_one}
-use Rattle.wiki_core.proofs.WholeStepLemmas as whole
-use Rattle.wiki_core.proofs.WholeStepLemmas.{state_at, step_one}
-use Rattle.wiki_core.proofs.AgainLemmas.{reply_again, spent_again, IsMade, AreShortSessions, free_third, step_made}
+use Rattle.wiki_core.proofs.AgainLemmas.{alone, step_alone, reply_again, spent_again, IsMade, AreShortSessions, free_third, free_of_it, step_made}
 
 -- ---- words stay readable
 
@@ -47,81 +61,62 @@ none_told None never = refl
 none_told (Some x) never = absurd (never x refl)
 
 -- words that stay as they are
-same_words : (old new : parts.State) → AreReady old.grammar old.words → new.grammar ≡ old.grammar → new.words ≡ old.words → AreReady new.grammar new.words
-same_words old new ready grammar words =
-    subst (λ (g : GrammarParts). AreReady g new.words) (sym grammar) (subst (λ (w : Listed). AreReady old.grammar w) (sym words) ready)
+same_words : (old new : Stored) → AreReady old.grammar old.words → KeepsReading old new → AreReady new.grammar new.words
+same_words old new ready keeps =
+    subst (λ (g : GrammarParts). AreReady g new.words) (sym keeps.grammar) (subst (λ (w : Listed). AreReady old.grammar w) (sym keeps.words) ready)
 
 -- words that are made of those
-other_words : (old new : parts.State) (words : Listed) → AreReady old.grammar old.words → new.grammar ≡ old.grammar → new.words ≡ words
-    → words.terminals ≡ old.words.terminals → AreReadable old.words.terminals words.live → AreReady new.grammar new.words
-other_words old new words ready grammar is terminals readable =
-    subst (λ (g : GrammarParts). AreReady g new.words) (sym grammar) (subst (λ (w : Listed). AreReady old.grammar w) (sym is) (record {
-      sound = ready.sound;
-      apart = ready.apart;
-      terminals = terminals ∙ ready.terminals;
-      readable = subst (λ (ts : List (List ℕ)). AreReadable ts words.live) (sym terminals) readable;
-    }))
+other_words : (old : Stored) (words : Listed) → AreReady old.grammar old.words → words.terminals ≡ old.words.terminals
+    → AreReadable old.words.terminals words.live → AreReady old.grammar words
+other_words old words ready terminals readable = record {
+  sound = ready.sound;
+  apart = ready.apart;
+  terminals = terminals ∙ ready.terminals;
+  readable = subst (λ (ts : List (List ℕ)). AreReadable ts words.live) (sym terminals) readable;
+}
 
-pub not_bad_reword : (old : parts.State) (text : List ℕ) (texts : List (List ℕ)) → IsAbsent (FirstOf (NamesNoWord old text ∷ IsBadReword old text texts
-    ∷ BreaksSentence old text texts ∷ [])) → IsAbsent (IsBadReword old text texts)
-not_bad_reword old text texts free refusal bad = free refusal (inr (λ other h. free other (inl h), inl bad))
+-- a live word that has a form is one by its number
+named_lives : (stored : Stored) (form : List ℕ) (word : Word) → word_with stored form ≡ Some word → IsSome (forms_of stored.words.live word.id)
+named_lives stored form word named = owner_lives stored.words.live form word.id (ap (option_map (λ (w : Word). w.id)) named)
 
-does_ready : (old : parts.State) (request : Request) (reply : Reply) (new : parts.State) → AreReady old.grammar old.words → GivesUtf8 request
-    → GivesUnraised request → store.IsFree old request → store.Does old request reply new → AreReady new.grammar new.words
-does_ready old (requests.Word kind texts) reply new ready utf8 unraised free x =
-    other_words old new (with_word old.words (forms_given kind texts)) ready (ap (λ (p : parts.State). p.grammar) x.after)
-    (ap (λ (p : parts.State). p.words) x.after) refl
-    (readable_word old.words kind texts utf8 (none_told (word_refusal old.words kind texts) free) ready.readable)
-does_ready old (requests.Reword text texts) reply new ready utf8 unraised free x =
-    other_words old new (with_forms old.words x.word (forms_given x.forms.kind texts)) ready (ap (λ (p : parts.State). p.grammar) x.after)
-    (ap (λ (p : parts.State). p.words) x.after) refl
-    (readable_reword old.words x.word x.forms texts x.of_word utf8
-    (none_told (reword_cause old.words x.word x.forms.kind texts) (λ refusal told. not_bad_reword old text texts free refusal
-    (record { word = x.word; named = x.named; old = x.forms; of_word = x.of_word; told = told }))) ready.readable)
-does_ready old (requests.Unword text) reply new ready utf8 unraised free x =
-    other_words old new (without_word old.words x.word) ready (ap (λ (p : parts.State). p.grammar) x.after) (ap (λ (p : parts.State). p.words) x.after) refl
-    (readable_without old.words.terminals old.words.live x.word ready.readable)
-does_ready old (requests.Grammar text) reply new ready utf8 unraised free x =
-    let none : lexicon_refusal old.words (reground_refusal old.words.live x.g.terminals) ≡ None =
-    none_told (lexicon_refusal old.words (reground_refusal old.words.live x.g.terminals)) (λ refusal told.
-    free_third (IsNoGrammar text) (IsBare text) (HasForm old text) (BreaksByGrammar old text ∷ []) free refusal
-    (record { g = x.g; is = x.is; told = told })) in
-    let ready_after : AreReady x.g (with_terminals old.words x.g.terminals) = record {
-      sound = text_sound text x.g x.is;
-      apart = unraised x.g x.is;
-      terminals = refl;
-      readable = readable_beside old.words x.g.terminals none ready.readable;
-    } in
-    subst (λ (p : parts.State). AreReady p.grammar p.words) (sym x.after) ready_after
-does_ready old (requests.Find text) reply new ready utf8 unraised free x =
-    same_words old new ready (ap (λ (p : parts.State). p.grammar) x.after) (ap (λ (p : parts.State). p.words) x.after)
-does_ready old requests.Words reply new ready utf8 unraised free x =
-    same_words old new ready (ap (λ (p : parts.State). p.grammar) x.after) (ap (λ (p : parts.State). p.words) x.after)
-does_ready old (requests.Parse text) reply new ready utf8 unraised free x =
-    same_words old new ready (ap (λ (p : parts.State). p.grammar) x.after) (ap (λ (p : parts.State). p.words) x.after)
-does_ready old (requests.Add article given text) reply new ready utf8 unraised free x =
-    same_words old new ready (ap (λ (p : parts.State). p.grammar) x.after) (ap (λ (p : parts.State). p.words) x.after)
-does_ready old (requests.Edit article place text) reply new ready utf8 unraised free x =
-    same_words old new ready (ap (λ (p : parts.State). p.grammar) x.after) (ap (λ (p : parts.State). p.words) x.after)
-does_ready old (requests.Remove article place) reply new ready utf8 unraised free x =
-    same_words old new ready (ap (λ (p : parts.State). p.grammar) x.after) (ap (λ (p : parts.State). p.words) x.after)
-does_ready old (requests.Retract article place) reply new ready utf8 unraised free x =
-    same_words old new ready (ap (λ (p : parts.State). p.grammar) x.after) (ap (λ (p : parts.State). p.words) x.after)
-does_ready old (requests.Reassert article place) reply new ready utf8 unraised free x =
-    same_words old new ready (ap (λ (p : parts.State). p.grammar) x.after) (ap (λ (p : parts.State). p.words) x.after)
-does_ready old (requests.Read article) reply new ready utf8 unraised free x =
-    same_words old new ready (ap (λ (p : parts.State). p.grammar) x.after) (ap (λ (p : parts.State). p.words) x.after)
-does_ready old (requests.Axioms article place) reply new ready utf8 unraised free x =
-    same_words old new ready (ap (λ (p : parts.State). p.grammar) x.after) (ap (λ (p : parts.State). p.words) x.after)
-does_ready old request reply new ready utf8 unraised free x = absurd x
+-- nothing stands against other forms of a word
+pub rewordable : (stored : Stored) (word : Word) (texts : List (List ℕ)) → NoneOf (against_word stored (of_word.Reword texts) word)
+    → reword_cause stored.words word.id word.forms.kind texts ≡ None
+rewordable stored word texts free = none_told (reword_cause stored.words word.id word.forms.kind texts) (λ refusal told. free refusal (inl told))
 
-pages_ready : (old : parts.State) (request : Request) (reply : Reply) (new : parts.State) → AreReady old.grammar old.words → GivesUtf8 request
-    → GivesUnraised request → store.Step old request reply new → AreReady new.grammar new.words
-pages_ready old request reply new ready utf8 unraised step = by (one.outcome old request reply new step)
-  where
-    by : one.IsRefused old request reply new ⊎ one.IsDone old request reply new → AreReady new.grammar new.words
-    by (inl refused) = subst (λ (p : parts.State). AreReady p.grammar p.words) (sym refused.3) ready
-    by (inr done) = does_ready old request reply new ready utf8 unraised done.0 done.1
+module _ (old : Stored) (reply : Reply) (new : Stored) (ready : AreReady old.grammar old.words) where
+  word_ready : (kind : Kind) (texts : List (List ℕ)) → All IsUtf8 texts → NoneOf (against_wiki old (of_wiki.Word kind texts))
+      → AddsWord kind texts old reply new → AreReady new.grammar new.words
+  word_ready kind texts utf8 free x =
+      subst (λ (p : Stored). AreReady p.grammar p.words) (sym x.after)
+      (other_words old (with_word old.words (forms_given kind texts)) ready refl
+      (readable_word old.words kind texts utf8 (none_told (word_refusal old.words kind texts) (λ refusal told. free refusal (inl told))) ready.readable))
+
+  reword_ready : (form : List ℕ) (texts : List (List ℕ)) (word : Word) → word_with old form ≡ Some word → All IsUtf8 texts
+      → NoneOf (against_word old (of_word.Reword texts) word) → RewordsWord word texts old reply new → AreReady new.grammar new.words
+  reword_ready form texts word named utf8 free x =
+      subst (λ (p : Stored). AreReady p.grammar p.words) (sym x.after)
+      (other_words old (with_forms old.words word.id (forms_given word.forms.kind texts)) ready refl
+      (readable_reword old.words word.id word.forms.kind texts (named_lives old form word named) utf8 (rewordable old word texts free) ready.readable))
+
+  unword_ready : (word : Word) → RemovesWord word old reply new → AreReady new.grammar new.words
+  unword_ready word x =
+      subst (λ (p : Stored). AreReady p.grammar p.words) (sym x.after)
+      (other_words old (without_word old.words word.id) ready refl (readable_without old.words.terminals old.words.live word.id ready.readable))
+
+  grammar_ready : (text : List ℕ) → GivesUnraised (requests.OnWiki (of_wiki.Grammar text)) → NoneOf (against_wiki old (of_wiki.Grammar text))
+      → TakesGrammar text old reply new → AreReady new.grammar new.words
+  grammar_ready text unraised free x =
+      let none : lexicon_refusal old.words (reground_refusal old.words.live x.g.terminals) ≡ None =
+      none_told (lexicon_refusal old.words (reground_refusal old.words.live x.g.terminals)) (λ refusal told.
+      free_third (is_no_grammar text) (is_bare text) (has_a_form old text) (breaks_by_grammar old text ∷ []) free refusal (x.g, x.is, told)) in
+      let ready_after : AreReady x.g (with_terminals old.words x.g.terminals) = record {
+        sound = text_sound text x.g x.is;
+        apart = unraised x.g x.is;
+        terminals = refl;
+        readable = readable_beside old.words x.g.terminals none ready.readable;
+      } in
+      subst (λ (p : Stored). AreReady p.grammar p.words) (sym x.after) ready_after
 
 -- ---- sessions stay short
 
@@ -139,21 +134,20 @@ short_append [] session short one = (one, tt)
 short_append (s ∷ sessions) session short one = (short.0, short_append sessions session short.1 one)
 
 -- what holds of all sessions, and of those with the number, makes the changed ones short
-short_changed : (sessions : List PlainSession) (number : ℕ) (change : PlainSession → PlainSession) → AreShortSessions sessions
-    → Each (λ s. has_number (record { 0 = number }) s ≡ true → length (change s).tokens ≤ 40) sessions
-    → AreShortSessions (with_change sessions (record { 0 = number }) change)
+short_changed : (sessions : List PlainSession) (number : SessionId) (change : PlainSession → PlainSession) → AreShortSessions sessions
+    → Each (λ s. has_number number s ≡ true → length (change s).tokens ≤ 40) sessions → AreShortSessions (with_change sessions number change)
 short_changed [] number change short fits = tt
 short_changed (s ∷ sessions) number change short fits =
-    (by (has_number (record { 0 = number }) s) refl, short_changed sessions number change short.1 fits.1)
+    (by (has_number number s) refl, short_changed sessions number change short.1 fits.1)
   where
-    by : (b : Bool) → has_number (record { 0 = number }) s ≡ b → length (cond b (change s) s).tokens ≤ 40
+    by : (b : Bool) → has_number number s ≡ b → length (cond b (change s) s).tokens ≤ 40
     by true is = fits.0 is
     by false is = short.0
 
 -- a change that adds no token
-no_longer : (sessions : List PlainSession) (number : ℕ) (change : PlainSession → PlainSession)
+no_longer : (sessions : List PlainSession) (number : SessionId) (change : PlainSession → PlainSession)
     → ((s : PlainSession) → length (change s).tokens ≤ length s.tokens) → AreShortSessions sessions
-    → Each (λ s. has_number (record { 0 = number }) s ≡ true → length (change s).tokens ≤ 40) sessions
+    → Each (λ s. has_number number s ≡ true → length (change s).tokens ≤ 40) sessions
 no_longer [] number change less short = tt
 no_longer (s ∷ sessions) number change less short =
     (λ is. let own = short.0 in let one = less s in omega (arith, own, one), no_longer sessions number change less short.1)
@@ -194,9 +188,9 @@ short_rebased g words (o ∷ old) (n ∷ new) rebased short =
     let own = short.0 in
     (omega (arith, same, own), short_rebased g words old new rebased.1 short.1)
 
-typed_short : (sessions : List PlainSession) (number : ℕ) (token : PlainSession → List ℕ) (found : PlainSession) → length found.tokens < 40
-    → Each (λ s. has_number (record { 0 = number }) s ≡ true → s ≡ found) sessions
-    → Each (λ s. has_number (record { 0 = number }) s ≡ true → length (s.tokens ++ token s ∷ []) ≤ 40) sessions
+typed_short : (sessions : List PlainSession) (number : SessionId) (token : PlainSession → List ℕ) (found : PlainSession) → length found.tokens < 40
+    → Each (λ s. has_number number s ≡ true → s ≡ found) sessions
+    → Each (λ s. has_number number s ≡ true → length (s.tokens ++ token s ∷ []) ≤ 40) sessions
 typed_short [] number token found less one = tt
 typed_short (s ∷ sessions) number token found less one = (
   λ has. let few : length s.tokens < 40 = subst (λ (t : PlainSession). length t.tokens < 40) (sym (one.0 has)) less in
@@ -211,257 +205,228 @@ take_less xs n = let same = length-take n xs in omega (arith, same)
 
 -- What a wiki shows is read as it was; its sessions' numbers rise, and each session has at most 40 tokens.
 pub record IsReady (state : State) : Type 0 where
-  pub pages : AreReady state.pages.grammar state.pages.words
+  pub stored : AreReady state.stored.grammar state.stored.words
   pub apt : IsApt state
   pub short : AreShortSessions state.sessions
 
-module _ (old new : State) (reply : Reply) (ready : IsReady old) where
-  -- sessions that stay
-  kept_short : new.sessions ≡ old.sessions → AreShortSessions new.sessions
-  kept_short same = subst AreShortSessions (sym same) ready.short
+-- the same without the numbers
+abbrev IsFit : State → Type 0
+IsFit state = AreReady state.stored.grammar state.stored.words × AreShortSessions state.sessions
 
-  -- sessions over requests on words and sentences
-  carried_short : (request : Request) → store.Step old.pages request reply new.pages → CarriesSessions old request reply new → AreShortSessions new.sessions
-  carried_short (requests.Word kind forms) step carries = by (one.outcome old.pages (requests.Word kind forms) reply new.pages step)
-    where
-      by : one.IsRefused old.pages (requests.Word kind forms) reply new.pages ⊎ one.IsDone old.pages (requests.Word kind forms) reply new.pages
-          → AreShortSessions new.sessions
-      by (inl refused) = kept_short
-          (subst (λ (r : Reply). CarriesSessions old (requests.Word kind forms) r new) refused.1 carries)
-      by (inr done) = short_rebased new.pages.grammar new.pages.words old.sessions new.sessions
-          (subst (λ (r : Reply). CarriesSessions old (requests.Word kind forms) r new) done.1.answer carries) ready.short
-  carried_short (requests.Reword form forms) step carries = by (one.outcome old.pages (requests.Reword form forms) reply new.pages step)
-    where
-      by : one.IsRefused old.pages (requests.Reword form forms) reply new.pages ⊎ one.IsDone old.pages (requests.Reword form forms) reply new.pages
-          → AreShortSessions new.sessions
-      by (inl refused) = kept_short
-          (subst (λ (r : Reply). CarriesSessions old (requests.Reword form forms) r new) refused.1 carries)
-      by (inr done) = short_rebased new.pages.grammar new.pages.words old.sessions new.sessions
-          (subst (λ (r : Reply). CarriesSessions old (requests.Reword form forms) r new) done.1.answer carries) ready.short
-  carried_short (requests.Grammar text) step carries = by (one.outcome old.pages (requests.Grammar text) reply new.pages step)
-    where
-      by : one.IsRefused old.pages (requests.Grammar text) reply new.pages ⊎ one.IsDone old.pages (requests.Grammar text) reply new.pages
-          → AreShortSessions new.sessions
-      by (inl refused) = kept_short
-          (subst (λ (r : Reply). CarriesSessions old (requests.Grammar text) r new) refused.1 carries)
-      by (inr done) = short_rebased new.pages.grammar new.pages.words old.sessions new.sessions
-          (subst (λ (r : Reply). CarriesSessions old (requests.Grammar text) r new) done.1.answer carries) ready.short
-  carried_short (requests.Unword form) step carries = by (one.outcome old.pages (requests.Unword form) reply new.pages step)
-    where
-      by : one.IsRefused old.pages (requests.Unword form) reply new.pages ⊎ one.IsDone old.pages (requests.Unword form) reply new.pages
-          → AreShortSessions new.sessions
-      by (inl refused) = kept_short
-          (subst (λ (r : Reply). CarriesSessions old (requests.Unword form) r new) refused.1 carries)
-      by (inr done) =
-          let ended : EndOnArticle old form new = subst (λ (r : Reply). CarriesSessions old (requests.Unword form) r new) done.1.answer carries in
-          subst AreShortSessions (sym ended.ended)
-          (short_filter (λ s. not (is_on ended.word s)) ended.rebased
-          (short_rebased new.pages.grammar new.pages.words old.sessions ended.rebased ended.rebases ready.short))
-  carried_short (requests.Find word) step carries = kept_short carries
-  carried_short requests.Words step carries = kept_short carries
-  carried_short (requests.Parse text) step carries = kept_short carries
-  carried_short (requests.Add article given text) step carries = kept_short carries
-  carried_short (requests.Edit article place text) step carries = kept_short carries
-  carried_short (requests.Remove article place) step carries = kept_short carries
-  carried_short (requests.Retract article place) step carries = kept_short carries
-  carried_short (requests.Reassert article place) step carries = kept_short carries
-  carried_short (requests.Read article) step carries = kept_short carries
-  carried_short (requests.Axioms article place) step carries = kept_short carries
-  carried_short (requests.Begin article) step carries = kept_short carries
-  carried_short (requests.Put session text) step carries = kept_short carries
-  carried_short (requests.Back session) step carries = kept_short carries
-  carried_short (requests.Menu session) step carries = kept_short carries
-  carried_short (requests.Commit session) step carries = kept_short carries
-  carried_short (requests.Refresh session) step carries = kept_short carries
-  carried_short (requests.Drop session) step carries = kept_short carries
+module _ (IsSpent : Spending) (old : State) (reply : Reply) (new : State) (ready : IsReady old) where
+  same_fit : new ≡ old → IsFit new
+  same_fit same = subst IsFit (sym same) (ready.stored, ready.short)
 
-  -- words and sessions after a request on a session
-  same_pages : new.pages ≡ old.pages → AreReady new.pages.grammar new.pages.words
-  same_pages same = subst (λ (p : parts.State). AreReady p.grammar p.words) (sym same) ready.pages
+  -- sentences change
+  stored_fit : (changes : Stored → Reply → Stored → Type 0) → ChangesStored changes old reply new → KeepsReading old.stored new.stored → IsFit new
+  stored_fit changes x keeps = (same_words old.stored new.stored ready.stored keeps, subst AreShortSessions (sym x.sessions) ready.short)
 
-  session_done : (request : Request) → whole.IsDone old request reply new → AreReady new.pages.grammar new.pages.words × AreShortSessions new.sessions
-  session_done (requests.Begin article) (free, x) = (
-    same_pages (ap (λ (s : State). s.pages) x.after),
-    subst AreShortSessions (sym (ap (λ (s : State). s.sessions) x.after))
-        (short_append old.sessions (new_session (numbered (old.last + 1)) x.word x.article.revision) ready.short (omega arith)),
+  -- words or the grammar change
+  words_fit : (changes : Stored → Reply → Stored → Type 0) → ChangesWords changes old reply new → AreReady new.stored.grammar new.stored.words → IsFit new
+  words_fit changes x fit = (fit, short_rebased new.stored.grammar new.stored.words old.sessions new.sessions x.sessions ready.short)
+
+  -- a session changes
+  changed_fit : (sessions : List PlainSession) → new.sessions ≡ sessions → AreShortSessions sessions → KeepsReading old.stored new.stored → IsFit new
+  changed_fit sessions is short keeps = (same_words old.stored new.stored ready.stored keeps, subst AreShortSessions (sym is) short)
+
+  wiki_fit : (asked : WikiRequest) → GivesUtf8 (requests.OnWiki asked) → GivesUnraised (requests.OnWiki asked) → NoneOf (against_wiki old.stored asked)
+      → DoesOnWiki asked old reply new → IsFit new
+  wiki_fit (of_wiki.Word kind texts) utf8 unraised free x =
+      words_fit (AddsWord kind texts) x (word_ready old.stored reply new.stored ready.stored kind texts utf8 free x.stored)
+  wiki_fit of_wiki.Words utf8 unraised free x = same_fit x.1
+  wiki_fit (of_wiki.Parse text) utf8 unraised free x = same_fit x.1
+  wiki_fit (of_wiki.Grammar text) utf8 unraised free x =
+      words_fit (TakesGrammar text) x (grammar_ready old.stored reply new.stored ready.stored text unraised free x.stored)
+
+  word_fit : (form : List ℕ) (asked : WordRequest) (word : Word) → word_with old.stored form ≡ Some word → GivesUtf8 (requests.OnWord form asked)
+      → NoneOf (against_word old.stored asked word) → DoesOnWord asked word old reply new → IsFit new
+  word_fit form of_word.Find word named utf8 free x = same_fit x.1
+  word_fit form (of_word.Reword texts) word named utf8 free x =
+      words_fit (RewordsWord word texts) x (reword_ready old.stored reply new.stored ready.stored form texts word named utf8 free x.stored)
+  word_fit form of_word.Unword word named utf8 free x = (
+    unword_ready old.stored reply new.stored ready.stored word x.stored,
+    subst AreShortSessions (sym x.sessions)
+        (short_filter (λ s. not (is_on word.id s)) x.rebased
+        (short_rebased new.stored.grammar new.stored.words old.sessions x.rebased x.rebases ready.short)),
   )
-  session_done (requests.Put session text) (free, x) = (
-    same_pages (ap (λ (s : State). s.pages) x.after),
-    subst AreShortSessions (sym (ap (λ (s : State). s.sessions) x.after))
-        (short_changed old.sessions session (with_tokens (λ tokens. tokens ++ typed old.pages.grammar.terminals tokens text ∷ [])) ready.short
-        (typed_short old.sessions session (λ s. typed old.pages.grammar.terminals s.tokens text) x.session
-        (not_full x.session x.named free) (only 0 old.last session old.sessions ready.apt x.session x.named))),
-  )
+
+  article_fit : (asked : ArticleRequest) (article : Article) → DoesOnArticle IsSpent asked article old reply new
+      → KeepsReading old.stored new.stored → IsFit new
+  article_fit of_article.Read article x keeps = same_fit x.1
+  article_fit (of_article.Add given text) article x keeps = stored_fit _ x keeps
+  article_fit (of_article.Edit place text) article x keeps = stored_fit _ x keeps
+  article_fit (of_article.Remove place) article x keeps = stored_fit _ x keeps
+  article_fit (of_article.Retract place) article x keeps = stored_fit _ x keeps
+  article_fit (of_article.Reassert place) article x keeps = stored_fit _ x keeps
+  article_fit (of_article.Axioms place) article x keeps = same_fit x.1
+  article_fit of_article.Open article x keeps =
+      changed_fit _ (ap (λ (s : State). s.sessions) x.after)
+      (short_append old.sessions (new_session (numbered (old.last + 1)) article.word article.revision) ready.short (omega arith)) keeps
+
+  -- one token more, where there may be one more
+  type_short : (number : ℕ) (text : List ℕ) (session : PlainSession) → session_numbered old number ≡ Some session
+      → NoneOf (against_session old (of_session.Type text) session)
+      → AreShortSessions (with_change old.sessions session.number (with_tokens (λ tokens. tokens ++ typed old.stored.grammar.terminals tokens text ∷ [])))
+  type_short number text session named free =
+      let change = with_tokens (λ tokens. tokens ++ typed old.stored.grammar.terminals tokens text ∷ []) in
+      subst (λ (id : SessionId). AreShortSessions (with_change old.sessions id change)) (sym (number_is old.sessions (numbered number) session named))
+      (short_changed old.sessions (numbered number) change ready.short
+      (typed_short old.sessions (numbered number) (λ s. typed old.stored.grammar.terminals s.tokens text) session (by (cases_lt (length session.tokens) 40))
+      (only 0 old.last number old.sessions ready.apt session named)))
     where
-      not_full : (found : PlainSession) → session_numbered old session ≡ Some found → IsFree old (requests.Put session text) → length found.tokens < 40
-      not_full found named free = by (cases_lt (length found.tokens) 40)
-        where
-          by : (length found.tokens < 40) ⊎ (40 ≤ length found.tokens) → length found.tokens < 40
-          by (inl less) = less
-          by (inr full) = absurd (free (full_at limits.Tokens) (inr (
-            λ other gone. none-some found (sym gone.none ∙ named),
-            inl (record { session = found; named = named; full = full; told = refl }),
-          )))
-  session_done (requests.Back session) (free, x) = (
-    same_pages (ap (λ (s : State). s.pages) x.after),
-    subst AreShortSessions (sym (ap (λ (s : State). s.sessions) x.after))
-        (short_changed old.sessions session (with_tokens (λ tokens. take (length tokens - 1) tokens)) ready.short
-        (no_longer old.sessions session (with_tokens (λ tokens. take (length tokens - 1) tokens)) (λ s. take_less s.tokens (length s.tokens - 1)) ready.short)),
-  )
-  session_done (requests.Menu session) (free, x) = (
-    same_pages (ap (λ (s : State). s.pages) x.after),
-    kept_short (ap (λ (s : State). s.sessions) x.after),
-  )
-  session_done (requests.Commit session) (free, x) = (
-    same_words old.pages new.pages ready.pages (ap (λ (s : State). s.pages.grammar) x.after) (ap (λ (s : State). s.pages.words) x.after),
-    subst AreShortSessions (sym (ap (λ (s : State). s.sessions) x.after))
-        (short_changed old.sessions session (begun_again x.article) ready.short
-        (no_longer old.sessions session (begun_again x.article) (λ s. omega arith) ready.short)),
-  )
-  session_done (requests.Refresh session) (free, x) = (
-    same_pages (ap (λ (s : State). s.pages) x.after),
-    subst AreShortSessions (sym (ap (λ (s : State). s.sessions) x.after))
-        (short_changed old.sessions session (with_revision x.article.revision) ready.short
-        (no_longer old.sessions session (with_revision x.article.revision) (λ s. omega arith) ready.short)),
-  )
-  session_done (requests.Drop session) (free, x) = (
-    same_pages (ap (λ (s : State). s.pages) x.after),
-    subst AreShortSessions (sym (ap (λ (s : State). s.sessions) x.after))
-        (short_filter (λ s. not (has_number (record { 0 = session }) s)) old.sessions ready.short),
-  )
-  session_done request (free, x) = absurd x
+      by : (length session.tokens < 40) ⊎ (40 ≤ length session.tokens) → length session.tokens < 40
+      by (inl less) = less
+      by (inr full) = absurd (free (full_at limits.Tokens) (inl (full, refl)))
 
-  session_ready : (request : Request) → StepsSession old request reply new → AreReady new.pages.grammar new.pages.words × AreShortSessions new.sessions
-  session_ready request step = by (whole.outcome old request reply new step)
+  session_fit : (number : ℕ) (asked : SessionRequest) (session : PlainSession) → session_numbered old number ≡ Some session
+      → NoneOf (against_session old asked session) → DoesOnSession IsSpent asked session old reply new → KeepsReading old.stored new.stored → IsFit new
+  session_fit number (of_session.Type text) session named free x keeps =
+      changed_fit _ (ap (λ (s : State). s.sessions) x.after) (type_short number text session named free) keeps
+  session_fit number of_session.Back session named free x keeps =
+      let change = with_tokens (λ tokens. take (length tokens - 1) tokens) in
+      changed_fit _ (ap (λ (s : State). s.sessions) x.after)
+      (short_changed old.sessions session.number change ready.short
+      (no_longer old.sessions session.number change (λ s. take_less s.tokens (length s.tokens - 1)) ready.short)) keeps
+  session_fit number of_session.Menu session named free x keeps = same_fit x.1
+  session_fit number of_session.Commit session named free x keeps =
+      changed_fit _ (ap (λ (s : State). s.sessions) x.after)
+      (short_changed old.sessions session.number (begun_again x.article) ready.short
+      (no_longer old.sessions session.number (begun_again x.article) (λ s. omega arith) ready.short)) keeps
+  session_fit number of_session.Refresh session named free x keeps =
+      changed_fit _ (ap (λ (s : State). s.sessions) x.after)
+      (short_changed old.sessions session.number (with_revision x.article.revision) ready.short
+      (no_longer old.sessions session.number (with_revision x.article.revision) (λ s. omega arith) ready.short)) keeps
+  session_fit number of_session.Drop session named free x keeps =
+      changed_fit _ (ap (λ (s : State). s.sessions) x.after)
+      (short_filter (λ s. not (has_number session.number s)) old.sessions ready.short) keeps
+
+  does_fit : (request : Request) → GivesUtf8 request → GivesUnraised request → IsFree old request → Does IsSpent old request reply new → IsFit new
+  does_fit (requests.OnWiki asked) utf8 unraised free x = wiki_fit asked utf8 unraised free x
+  does_fit (requests.OnWord form asked) utf8 unraised free x =
+      let found = some_is (word_with old.stored form) (λ word. DoesOnWord asked word old reply new) x in
+      word_fit form asked found.it found.named utf8
+      (free_of_it (word_with old.stored form) (NoWord form) (against_word old.stored asked) found.it found.named free) found.is
+  does_fit (requests.OnArticle form asked) utf8 unraised free x =
+      let found = some_is (article_named old.stored form) (λ article. DoesOnArticle IsSpent asked article old reply new) x in
+      article_fit asked found.it found.is (article_keeps IsSpent old reply new asked found.it found.is)
+  does_fit (requests.OnSession number asked) utf8 unraised free x =
+      let found = some_is (session_numbered old number) (λ session. DoesOnSession IsSpent asked session old reply new) x in
+      session_fit number asked found.it found.named
+      (free_of_it (session_numbered old number) (NoSession number) (against_session old asked) found.it found.named free) found.is
+      (session_keeps IsSpent old reply new asked found.it found.is)
+
+  step_fit : (request : Request) → GivesUtf8 request → GivesUnraised request → Step IsSpent old request reply new → IsFit new
+  step_fit request utf8 unraised step = by (outcome IsSpent old request reply new step)
     where
-      by : whole.IsRefused old request reply new ⊎ whole.IsDone old request reply new
-          → AreReady new.pages.grammar new.pages.words × AreShortSessions new.sessions
-      by (inl refused) = (same_pages (ap (λ (s : State). s.pages) refused.3), kept_short (ap (λ (s : State). s.sessions) refused.3))
-      by (inr done) = session_done request done
-
-  stored_ready : (request : Request) → GivesUtf8 request → GivesUnraised request → StepsPages old request reply new
-      → AreReady new.pages.grammar new.pages.words × AreShortSessions new.sessions
-  stored_ready request utf8 unraised step =
-      (pages_ready old.pages request reply new.pages ready.pages utf8 unraised step.pages, carried_short request step.pages step.sessions)
-
-  parts_ready : (request : Request) → GivesUtf8 request → GivesUnraised request → Step old request reply new
-      → AreReady new.pages.grammar new.pages.words × AreShortSessions new.sessions
-  parts_ready (requests.Begin article) utf8 unraised step = session_ready (requests.Begin article) step
-  parts_ready (requests.Put session text) utf8 unraised step = session_ready (requests.Put session text) step
-  parts_ready (requests.Back session) utf8 unraised step = session_ready (requests.Back session) step
-  parts_ready (requests.Menu session) utf8 unraised step = session_ready (requests.Menu session) step
-  parts_ready (requests.Commit session) utf8 unraised step = session_ready (requests.Commit session) step
-  parts_ready (requests.Refresh session) utf8 unraised step = session_ready (requests.Refresh session) step
-  parts_ready (requests.Drop session) utf8 unraised step = session_ready (requests.Drop session) step
-  parts_ready request utf8 unraised step = stored_ready request utf8 unraised step
+      by : IsRefused old request reply new ⊎ IsDone IsSpent old request reply new → IsFit new
+      by (inl refused) = same_fit refused.3
+      by (inr done) = does_fit request utf8 unraised done.0 done.1
 
   -- a wiki stays ready
-  pub stays_ready : (request : Request) → GivesUtf8 request → GivesUnraised request → Step old request reply new → IsReady new
+  pub stays_ready : (request : Request) → GivesUtf8 request → GivesUnraised request → Step IsSpent old request reply new → IsReady new
   stays_ready request utf8 unraised step =
-      let both = parts_ready request utf8 unraised step in
-      record { pages = both.0; apt = (open_step old new 0 ready.apt (omega arith) request reply step).apt; short = both.1 }
+      let fit = step_fit request utf8 unraised step in
+      record { stored = fit.0; apt = (open_step IsSpent old new 0 ready.apt (omega arith) request reply step).apt; short = fit.1 }
 
 -- ---- runs
 
 -- requests one after another, none of which is told that a budget was spent
-abbrev Asks : State → List Request → State → Type 0
-Asks first [] last = last ≡ first
-Asks first (request ∷ requests) last =
-    (reply : Reply) × (next : State) × Step first request reply next × (tells_spent reply ≡ false) × Asks next requests last
+abbrev Asks : Spending → State → List Request → State → Type 0
+Asks IsSpent first [] last = last ≡ first
+Asks IsSpent first (request ∷ requests) last =
+    (reply : Reply) × (next : State) × Step IsSpent first request reply next × (tells_spent reply ≡ false) × Asks IsSpent next requests last
 
 pub neither : (a b : Bool) → (a || b) ≡ false → (a ≡ false) × (b ≡ false)
 neither true b h = absurd (false≢true (sym h))
 neither false b h = (refl, h)
 
 -- a run asks its requests
-asks_turns : (exchanges : List (Exchange Request Reply)) (first last : State) → Turns Step first exchanges last → SpendsNone exchanges
-    → Asks first (asked_of exchanges) last
-asks_turns [] first last turns kept = turns
-asks_turns (answered request reply ∷ exchanges) first last (next, step, turns) kept =
+asks_turns : (IsSpent : Spending) (exchanges : List (Exchange Request Reply)) (first last : State) → Turns (Step IsSpent) first exchanges last
+    → SpendsNone exchanges → Asks IsSpent first (asked_of exchanges) last
+asks_turns IsSpent [] first last turns kept = turns
+asks_turns IsSpent (answered request reply ∷ exchanges) first last (next, step, turns) kept =
     let both = neither (tells_spent reply) (list_any is_spent_in exchanges) kept in
-    (reply, next, step, both.0, asks_turns exchanges next last turns both.1)
-asks_turns (no_request ∷ exchanges) first last (next, same, turns) kept =
-    subst (λ (s : State). Asks s (asked_of exchanges) last) same (asks_turns exchanges next last turns kept)
+    (reply, next, step, both.0, asks_turns IsSpent exchanges next last turns both.1)
+asks_turns IsSpent (no_request ∷ exchanges) first last (next, same, turns) kept =
+    subst (λ (s : State). Asks IsSpent s (asked_of exchanges) last) same (asks_turns IsSpent exchanges next last turns kept)
 
--- requests that are asked again lead to the same, and then the others are asked
-asks_again : (asked more : List Request) (first last : State) (budget : ℕ) (its_last : State) → Asks first asked last
-    → Asks (state_at first budget) (asked ++ more) its_last → Asks (state_at last budget) more its_last
-asks_again [] more first last budget its_last same again = subst (λ (s : State). Asks (state_at s budget) more its_last) (sym same) again
-asks_again (request ∷ asked) more first last budget its_last (reply, next, step, kept, rest) (its_reply, its_next, its_step, its_kept, its_rest) =
-    asks_again asked more next last budget its_last rest
-    (subst (λ (s : State). Asks s (asked ++ more) its_last) (step_one first budget request reply its_reply next its_next step its_step kept its_kept) its_rest)
+-- the change of a step, asked anywhere over what is stored
+pub made_again : (IsSpent ItsSpent : Spending) (old new : Stored) (change : Request) (said : Reply) → Step IsSpent (alone old) change said (alone new)
+    → tells_spent said ≡ false → own_change change ≡ change ∷ [] → (other its_new : State) (its_reply : Reply) → other.stored ≡ old
+    → Step ItsSpent other change its_reply its_new → tells_spent its_reply ≡ false → its_new.stored ≡ new
+made_again IsSpent ItsSpent old new change said step kept own other its_new its_reply same its_step its_kept =
+    let its_alone : Step ItsSpent (alone old) change its_reply (alone its_new.stored) =
+    subst (λ (p : Stored). Step ItsSpent (alone p) change its_reply (alone its_new.stored)) same
+    (step_alone ItsSpent other its_reply its_new change own its_step) in
+    ap (λ (s : State). s.stored)
+    (step_one IsSpent ItsSpent (alone old) said its_reply (alone new) (alone its_new.stored) kept its_kept change step its_alone)
 
--- the change of a step, asked anywhere over the same words and sentences
-pub made_again : (old new : parts.State) (change : Request) (said : Reply) → store.Step old change said new → tells_spent said ≡ false
-    → asks_store change ≡ true → (other its_new : State) (its_reply : Reply) → StandAlike old other.pages → Step other change its_reply its_new
-    → tells_spent its_reply ≡ false → StandAlike new its_new.pages
-made_again old new change said step kept asks other its_new its_reply same its_step its_kept =
-    let pages : StepsPages other change its_reply its_new =
-    subst (λ (b : Bool). MatchBool b (StepsPages other change its_reply its_new) (StepsSession other change its_reply its_new)) asks its_step in
-    let stored : store.Step (at_budget old other.pages.budget) change its_reply its_new.pages =
-    subst (λ (p : parts.State). store.Step p change its_reply its_new.pages) same pages.pages in
-    let is : its_new.pages ≡ at_budget new other.pages.budget =
-    store_one old other.pages.budget change said its_reply new its_new.pages step stored kept its_kept in
-    is ∙ sym (ap (λ (n : ℕ). at_budget new n) (ap (λ (p : parts.State). p.budget) is))
+module _ (IsSpent ItsSpent : Spending) where
+  -- requests that are asked again lead to the same, and then the others are asked
+  asks_again : (asked more : List Request) (first last its_last : State) → Asks IsSpent first asked last → Asks ItsSpent first (asked ++ more) its_last
+      → Asks ItsSpent last more its_last
+  asks_again [] more first last its_last same again = subst (λ (s : State). Asks ItsSpent s more its_last) (sym same) again
+  asks_again (request ∷ asked) more first last its_last (reply, next, step, kept, rest) (its_reply, its_next, its_step, its_kept, its_rest) =
+      asks_again asked more next last its_last rest
+      (subst (λ (s : State). Asks ItsSpent s (asked ++ more) its_last)
+      (step_one IsSpent ItsSpent first reply its_reply next its_next kept its_kept request step its_step) its_rest)
 
--- the changes of a run, asked over the same words and sentences
-made_run : (exchanges : List (Exchange Request Reply)) (first last other its_last : State) → IsReady first → Turns Step first exchanges last
-    → All GivesUtf8 (asked_of exchanges) → All GivesUnraised (asked_of exchanges) → SpendsNone exchanges → StandAlike first.pages other.pages
-    → Asks other (changes_of exchanges) its_last
-    → StandAlike last.pages its_last.pages
-made_run [] first last other its_last ready turns utf8 unraised kept same asks =
-    subst (λ (s : State). StandAlike s.pages its_last.pages) (sym turns) (subst (λ (s : State). StandAlike first.pages s.pages) (sym asks) same)
-made_run (no_request ∷ exchanges) first last other its_last ready (next, is, turns) utf8 unraised kept same asks =
-    made_run exchanges next last other its_last (subst IsReady (sym is) ready) turns utf8 unraised kept
-    (subst (λ (s : State). StandAlike s.pages other.pages) (sym is) same) asks
-made_run (answered request reply ∷ exchanges) first last other its_last ready (next, step, turns) utf8 unraised kept same asks =
-    by (step_made first request reply next ready.pages ready.short step)
-    (λ it alike asked. made_run exchanges next last it its_last later turns later_utf8 later_unraised both.1 alike asked)
-  where
-    both : (tells_spent reply ≡ false) × (list_any is_spent_in exchanges ≡ false)
-    both = neither (tells_spent reply) (list_any is_spent_in exchanges) kept
+  -- the changes of a run, asked over what is stored
+  made_run : (exchanges : List (Exchange Request Reply)) (first last other its_last : State) → IsReady first → Turns (Step IsSpent) first exchanges last
+      → All GivesUtf8 (asked_of exchanges) → All GivesUnraised (asked_of exchanges) → SpendsNone exchanges → other.stored ≡ first.stored
+      → Asks ItsSpent other (changes_of exchanges) its_last → its_last.stored ≡ last.stored
+  made_run [] first last other its_last ready turns utf8 unraised kept same asks =
+      ap (λ (s : State). s.stored) asks ∙ same ∙ sym (ap (λ (s : State). s.stored) turns)
+  made_run (no_request ∷ exchanges) first last other its_last ready (next, is, turns) utf8 unraised kept same asks =
+      made_run exchanges next last other its_last (subst IsReady (sym is) ready) turns utf8 unraised kept
+      (same ∙ sym (ap (λ (s : State). s.stored) is)) asks
+  made_run (answered request reply ∷ exchanges) first last other its_last ready (next, step, turns) utf8 unraised kept same asks =
+      by (step_made IsSpent first reply next ready.stored request ready.short step)
+      (λ it alike asked. made_run exchanges next last it its_last later turns later_utf8 later_unraised both.1 alike asked)
+    where
+      both : (tells_spent reply ≡ false) × (list_any is_spent_in exchanges ≡ false)
+      both = neither (tells_spent reply) (list_any is_spent_in exchanges) kept
 
-    later : IsReady next
-    later = stays_ready first next reply ready request (All-head GivesUtf8 request (asked_of exchanges) utf8)
-        (All-head GivesUnraised request (asked_of exchanges) unraised) step
+      later : IsReady next
+      later = stays_ready IsSpent first reply next ready request (All-head GivesUtf8 request (asked_of exchanges) utf8)
+          (All-head GivesUnraised request (asked_of exchanges) unraised) step
 
-    later_utf8 : All GivesUtf8 (asked_of exchanges)
-    later_utf8 = All-tail GivesUtf8 request (asked_of exchanges) utf8
+      later_utf8 : All GivesUtf8 (asked_of exchanges)
+      later_utf8 = All-tail GivesUtf8 request (asked_of exchanges) utf8
 
-    later_unraised : All GivesUnraised (asked_of exchanges)
-    later_unraised = All-tail GivesUnraised request (asked_of exchanges) unraised
+      later_unraised : All GivesUnraised (asked_of exchanges)
+      later_unraised = All-tail GivesUnraised request (asked_of exchanges) unraised
 
-    by : IsMade first.pages request reply next.pages
-        → ((it : State) → StandAlike next.pages it.pages → Asks it (changes_of exchanges) its_last → StandAlike last.pages its_last.pages)
-        → StandAlike last.pages its_last.pages
-    by (inl (none, is)) going_on =
-        going_on other
-        (subst (λ (p : parts.State). StandAlike p other.pages) (sym is) same)
-        (subst (λ (changes : List Request). Asks other (changes ++ changes_of exchanges) its_last) none asks)
-    by (inr (change, only_one, asks_it, made)) going_on =
-        let first_asks : Asks other (change ∷ changes_of exchanges) its_last =
-        subst (λ (changes : List Request). Asks other (changes ++ changes_of exchanges) its_last) only_one asks in
-        going_on first_asks.1
-        (made_again first.pages next.pages change (reply_again reply) made (spent_again reply ∙ both.0) asks_it other first_asks.1 first_asks.0 same
-        first_asks.2 first_asks.3)
-        first_asks.4
+      by : IsMade IsSpent first.stored request reply next.stored
+          → ((it : State) → it.stored ≡ next.stored → Asks ItsSpent it (changes_of exchanges) its_last → its_last.stored ≡ last.stored)
+          → its_last.stored ≡ last.stored
+      by (inl (none, is)) going_on =
+          going_on other (same ∙ sym is)
+          (subst (λ (changes : List Request). Asks ItsSpent other (changes ++ changes_of exchanges) its_last) none asks)
+      by (inr (change, only_one, own, made)) going_on =
+          let first_asks : Asks ItsSpent other (change ∷ changes_of exchanges) its_last =
+          subst (λ (changes : List Request). Asks ItsSpent other (changes ++ changes_of exchanges) its_last) only_one asks in
+          going_on first_asks.1
+          (made_again IsSpent ItsSpent first.stored next.stored change (reply_again reply) made (spent_again reply ∙ both.0) own other first_asks.1
+          first_asks.0 same first_asks.2 first_asks.3)
+          first_asks.4
 
 -- a run leaves a wiki ready
-ready_run : (exchanges : List (Exchange Request Reply)) (first last : State) → IsReady first → Turns Step first exchanges last
+ready_run : (IsSpent : Spending) (exchanges : List (Exchange Request Reply)) (first last : State) → IsReady first → Turns (Step IsSpent) first exchanges last
     → All GivesUtf8 (asked_of exchanges) → All GivesUnraised (asked_of exchanges) → IsReady last
-ready_run [] first last ready turns utf8 unraised = subst IsReady (sym turns) ready
-ready_run (answered request reply ∷ exchanges) first last ready (next, step, turns) utf8 unraised =
-    ready_run exchanges next last
-    (stays_ready first next reply ready request (All-head GivesUtf8 request (asked_of exchanges) utf8)
+ready_run IsSpent [] first last ready turns utf8 unraised = subst IsReady (sym turns) ready
+ready_run IsSpent (answered request reply ∷ exchanges) first last ready (next, step, turns) utf8 unraised =
+    ready_run IsSpent exchanges next last
+    (stays_ready IsSpent first reply next ready request (All-head GivesUtf8 request (asked_of exchanges) utf8)
     (All-head GivesUnraised request (asked_of exchanges) unraised) step) turns
     (All-tail GivesUtf8 request (asked_of exchanges) utf8) (All-tail GivesUnraised request (asked_of exchanges) unraised)
-ready_run (no_request ∷ exchanges) first last ready (next, is, turns) utf8 unraised =
-    ready_run exchanges next last (subst IsReady (sym is) ready) turns utf8 unraised
+ready_run IsSpent (no_request ∷ exchanges) first last ready (next, is, turns) utf8 unraised =
+    ready_run IsSpent exchanges next last (subst IsReady (sym is) ready) turns utf8 unraised
 
 -- the wiki without words is ready
-pub first_ready : (g : GrammarParts) (budget : ℕ) → IsSound g → NoneIsRaised g.terminals → IsReady (first_state g budget)
-first_ready g budget sound apart = record {
-  pages = record { sound = sound; apart = apart; terminals = refl; readable = no_words g.terminals };
+pub first_ready : (g : GrammarParts) → IsSound g → NoneIsRaised g.terminals → IsReady (first_state g)
+first_ready g sound apart = record {
+  stored = record { sound = sound; apart = apart; terminals = refl; readable = no_words g.terminals };
   apt = omega arith;
   short = tt;
 }
@@ -470,11 +435,11 @@ first_ready g budget sound apart = record {
 pub stands_again : (g : GrammarParts) → IsSound g → NoneIsRaised g.terminals → StandsAgain g
 stands_again g sound apart budget its_budget former exchanges again mid last its_last before turns its_turns same utf8_before utf8 unraised_before unraised
     kept_before kept its_kept =
-    let ready = ready_run former (first_state g budget) mid (first_ready g budget sound apart) before utf8_before unraised_before in
-    let asks : Asks (first_state g its_budget) (asked_of former ++ changes_of exchanges) its_last =
-    subst (λ (asked : List Request). Asks (first_state g its_budget) asked its_last) same
-    (asks_turns again (first_state g its_budget) its_last its_turns its_kept) in
-    let rest : Asks (state_at mid its_budget) (changes_of exchanges) its_last =
-    asks_again (asked_of former) (changes_of exchanges) (first_state g budget) mid its_budget its_last
-    (asks_turns former (first_state g budget) mid before kept_before) asks in
-    made_run exchanges mid last (state_at mid its_budget) its_last ready turns utf8 unraised kept refl rest
+    let ready = ready_run (IsCutOff budget) former (first_state g) mid (first_ready g sound apart) before utf8_before unraised_before in
+    let asks : Asks (IsCutOff its_budget) (first_state g) (asked_of former ++ changes_of exchanges) its_last =
+    subst (λ (asked : List Request). Asks (IsCutOff its_budget) (first_state g) asked its_last) same
+    (asks_turns (IsCutOff its_budget) again (first_state g) its_last its_turns its_kept) in
+    let rest : Asks (IsCutOff its_budget) mid (changes_of exchanges) its_last =
+    asks_again (IsCutOff budget) (IsCutOff its_budget) (asked_of former) (changes_of exchanges) (first_state g) mid its_last
+    (asks_turns (IsCutOff budget) former (first_state g) mid before kept_before) asks in
+    made_run (IsCutOff budget) (IsCutOff its_budget) exchanges mid last mid its_last ready turns utf8 unraised kept refl rest

@@ -10,7 +10,7 @@ use Rattle.articles.specs.declared.sentences.Sentence.{Sentence}
 use Rattle.articles.specs.declared.article.Article.{Article}
 use Rattle.wiki_parts.specs.declared.meanings.Sense.{Sense}
 use Rattle.wiki_parts.specs.Kept.{stated_by, meanings_in}
-use Rattle.wiki_parts.specs.Meanings.{Meaning}
+use Rattle.plain_wiki.specs.Meanings.{Meaning}
 use Rattle.wiki_core.specs.Parts.{is_counted, place_of}
 
 -- a part as what it says

@@ -13,37 +13,40 @@ use Rattle.wiki_talk.specs.declared.replies.Reply.{Reply}
 use Rattle.wiki_talk.specs.declared.replies.Reply.TheVariants as replies
 use Rattle.wiki_talk.specs.declared.requests.Request.{Request}
 use Rattle.wiki_talk.specs.declared.requests.Request.TheVariants as requests
+use Rattle.wiki_talk.specs.declared.requests.WikiRequest.TheVariants as of_wiki
+use Rattle.wiki_talk.specs.declared.requests.WordRequest.TheVariants as of_word
+use Rattle.wiki_talk.specs.declared.requests.ArticleRequest.TheVariants as of_article
 use Rattle.wiki_talk.specs.Turns.{Exchange, answered, no_request, Turns}
-use Rattle.wiki_parts.specs.State as parts
-use Rattle.wiki_core.specs.State.{State, first_state}
-use Rattle.wiki_core.specs.Step.{Step}
+use Rattle.plain_wiki.specs.State.{State, first_state}
+use Rattle.plain_wiki.specs.Step.{Step}
+use Rattle.wiki_parts.specs.Spending.{IsCutOff}
 
 -- ---- changes
 
 -- a request that changes the grammar, words or sentences; what is done in a session is gone with it
 abbrev pub own_change : Request → List Request
-own_change (requests.Word kind forms) = requests.Word kind forms ∷ []
-own_change (requests.Reword word forms) = requests.Reword word forms ∷ []
-own_change (requests.Unword word) = requests.Unword word ∷ []
-own_change (requests.Grammar text) = requests.Grammar text ∷ []
-own_change (requests.Add article place text) = requests.Add article place text ∷ []
-own_change (requests.Edit article place text) = requests.Edit article place text ∷ []
-own_change (requests.Remove article place) = requests.Remove article place ∷ []
-own_change (requests.Retract article place) = requests.Retract article place ∷ []
-own_change (requests.Reassert article place) = requests.Reassert article place ∷ []
+own_change (requests.OnWiki (of_wiki.Word kind forms)) = requests.OnWiki (of_wiki.Word kind forms) ∷ []
+own_change (requests.OnWord word (of_word.Reword forms)) = requests.OnWord word (of_word.Reword forms) ∷ []
+own_change (requests.OnWord word of_word.Unword) = requests.OnWord word of_word.Unword ∷ []
+own_change (requests.OnWiki (of_wiki.Grammar text)) = requests.OnWiki (of_wiki.Grammar text) ∷ []
+own_change (requests.OnArticle article (of_article.Add place text)) = requests.OnArticle article (of_article.Add place text) ∷ []
+own_change (requests.OnArticle article (of_article.Edit place text)) = requests.OnArticle article (of_article.Edit place text) ∷ []
+own_change (requests.OnArticle article (of_article.Remove place)) = requests.OnArticle article (of_article.Remove place) ∷ []
+own_change (requests.OnArticle article (of_article.Retract place)) = requests.OnArticle article (of_article.Retract place) ∷ []
+own_change (requests.OnArticle article (of_article.Reassert place)) = requests.OnArticle article (of_article.Reassert place) ∷ []
 own_change request = []
 
 -- a sentence that is added or put in place of another, by what shows it, and not by the text that was sent
 abbrev pub shown_change : Request → List ℕ → List Request
-shown_change (requests.Add article place text) shown = requests.Add article place shown ∷ []
-shown_change (requests.Edit article place text) shown = requests.Edit article place shown ∷ []
+shown_change (requests.OnArticle article (of_article.Add place text)) shown = requests.OnArticle article (of_article.Add place shown) ∷ []
+shown_change (requests.OnArticle article (of_article.Edit place text)) shown = requests.OnArticle article (of_article.Edit place shown) ∷ []
 shown_change request shown = []
 
 -- the change that a request with this reply has made, as the request that makes it again: of a session's sentence, that it is added at
 -- the end of its article; none of what was refused or changes no words or sentences
 abbrev pub changes_by : Request → Reply → List Request
 changes_by request (replies.Refused refusal) = []
-changes_by request (replies.Commit article status shown) = requests.Add article None shown ∷ []
+changes_by request (replies.Commit article status shown) = requests.OnArticle article (of_article.Add None shown) ∷ []
 changes_by request (replies.Add status shown) = shown_change request shown
 changes_by request (replies.Edit status shown) = shown_change request shown
 changes_by request reply = own_change request
@@ -91,9 +94,9 @@ SpendsNone exchanges = list_any is_spent_in exchanges ≡ false
 
 -- the forms that are given for a word, and the text of a grammar, are in UTF-8
 abbrev pub GivesUtf8 : Request → Type 0
-GivesUtf8 (requests.Word kind forms) = All IsUtf8 forms
-GivesUtf8 (requests.Reword word forms) = All IsUtf8 forms
-GivesUtf8 (requests.Grammar text) = IsUtf8 text
+GivesUtf8 (requests.OnWiki (of_wiki.Word kind forms)) = All IsUtf8 forms
+GivesUtf8 (requests.OnWord word (of_word.Reword forms)) = All IsUtf8 forms
+GivesUtf8 (requests.OnWiki (of_wiki.Grammar text)) = IsUtf8 text
 GivesUtf8 request = Unit {0}
 
 -- no terminal is another one with its first letter raised to upper case, so that the first word of a sentence tells which it is
@@ -102,7 +105,7 @@ NoneIsRaised terminals = (token : List ℕ) → is_terminal terminals token ≡ 
 
 -- the same of the grammar that a request gives
 abbrev pub GivesUnraised : Request → Type 0
-GivesUnraised (requests.Grammar text) = (g : GrammarParts) → IsTextOf text g → NoneIsRaised g.terminals
+GivesUnraised (requests.OnWiki (of_wiki.Grammar text)) = (g : GrammarParts) → IsTextOf text g → NoneIsRaised g.terminals
 GivesUnraised request = Unit {0}
 
 -- each terminal is in UTF-8
@@ -113,11 +116,11 @@ AreUtf8 terminals = (terminal : List ℕ) → is_terminal terminals terminal ≡
 
 -- the place that a request names, if it names one, is a number of 32 bits
 abbrev pub HasShortPlace : Request → Type 0
-HasShortPlace (requests.Add article (Some place) text) = place ≤ LAST_NUMBER
-HasShortPlace (requests.Edit article place text) = place ≤ LAST_NUMBER
-HasShortPlace (requests.Remove article place) = place ≤ LAST_NUMBER
-HasShortPlace (requests.Retract article place) = place ≤ LAST_NUMBER
-HasShortPlace (requests.Reassert article place) = place ≤ LAST_NUMBER
+HasShortPlace (requests.OnArticle article (of_article.Add (Some place) text)) = place ≤ LAST_NUMBER
+HasShortPlace (requests.OnArticle article (of_article.Edit place text)) = place ≤ LAST_NUMBER
+HasShortPlace (requests.OnArticle article (of_article.Remove place)) = place ≤ LAST_NUMBER
+HasShortPlace (requests.OnArticle article (of_article.Retract place)) = place ≤ LAST_NUMBER
+HasShortPlace (requests.OnArticle article (of_article.Reassert place)) = place ≤ LAST_NUMBER
 HasShortPlace request = Unit {0}
 
 -- the request is one that a program can hold: the forms that it gives are in UTF-8, and its place has 32 bits
@@ -139,15 +142,15 @@ IsPlainSentence text = IsUtf8 text × (length text ≤ MOST_TOKENS * (LONGEST_TE
 
 -- the texts of a change are forms, and what shows a sentence; that of a grammar is as long as it was sent
 abbrev pub HasPlainTexts : Request → Type 0
-HasPlainTexts (requests.Word kind forms) = ArePlainForms forms
-HasPlainTexts (requests.Reword word forms) = IsPlainForm word × ArePlainForms forms
-HasPlainTexts (requests.Unword word) = IsPlainForm word
-HasPlainTexts (requests.Grammar text) = IsUtf8 text
-HasPlainTexts (requests.Add article place text) = IsPlainForm article × IsPlainSentence text
-HasPlainTexts (requests.Edit article place text) = IsPlainForm article × IsPlainSentence text
-HasPlainTexts (requests.Remove article place) = IsPlainForm article
-HasPlainTexts (requests.Retract article place) = IsPlainForm article
-HasPlainTexts (requests.Reassert article place) = IsPlainForm article
+HasPlainTexts (requests.OnWiki (of_wiki.Word kind forms)) = ArePlainForms forms
+HasPlainTexts (requests.OnWord word (of_word.Reword forms)) = IsPlainForm word × ArePlainForms forms
+HasPlainTexts (requests.OnWord word of_word.Unword) = IsPlainForm word
+HasPlainTexts (requests.OnWiki (of_wiki.Grammar text)) = IsUtf8 text
+HasPlainTexts (requests.OnArticle article (of_article.Add place text)) = IsPlainForm article × IsPlainSentence text
+HasPlainTexts (requests.OnArticle article (of_article.Edit place text)) = IsPlainForm article × IsPlainSentence text
+HasPlainTexts (requests.OnArticle article (of_article.Remove place)) = IsPlainForm article
+HasPlainTexts (requests.OnArticle article (of_article.Retract place)) = IsPlainForm article
+HasPlainTexts (requests.OnArticle article (of_article.Reassert place)) = IsPlainForm article
 HasPlainTexts request = ⊥
 
 -- the request is a change of the grammar, words or sentences, and but for the text of a grammar a short line can tell it
@@ -157,15 +160,11 @@ FitsLine request = HasPlainTexts request × HasShortPlace request
 -- Each change of a run but for that of the grammar fits a short line, however long the text was that was sent.
 abbrev pub ChangesFitLines : GrammarParts → Type 0
 ChangesFitLines g =
-    (budget : ℕ) (exchanges : List (Exchange Request Reply)) (last : State) → Turns Step (first_state g budget) exchanges last
+    (budget : ℕ) (exchanges : List (Exchange Request Reply)) (last : State) → Turns (Step (IsCutOff budget)) (first_state g) exchanges last
     → All GivesUtf8 (asked_of exchanges) → All GivesUnraised (asked_of exchanges) → All HasShortPlace (asked_of exchanges)
     → All FitsLine (changes_of exchanges)
 
 -- ---- what stands
-
--- the same grammar, words, articles and sentences stand in both; how long a search may take may differ
-abbrev pub StandAlike : parts.State → parts.State → Type 0
-StandAlike one other = other ≡ record one { budget = other.budget }
 
 -- What stands is what is read. Take any run, and another one that is asked for all of a first part of it again, and then for the changes
 -- of the rest. Where no grammar that is given has a terminal that is another one raised, and no reply of the two tells that a budget was
@@ -174,9 +173,9 @@ StandAlike one other = other ≡ record one { budget = other.budget }
 abbrev pub StandsAgain : GrammarParts → Type 0
 StandsAgain g =
     (budget its_budget : ℕ) (former exchanges again : List (Exchange Request Reply)) (mid last its_last : State)
-    → Turns Step (first_state g budget) former mid → Turns Step mid exchanges last
-    → Turns Step (first_state g its_budget) again its_last → asked_of again ≡ asked_of former ++ changes_of exchanges
+    → Turns (Step (IsCutOff budget)) (first_state g) former mid → Turns (Step (IsCutOff budget)) mid exchanges last
+    → Turns (Step (IsCutOff its_budget)) (first_state g) again its_last → asked_of again ≡ asked_of former ++ changes_of exchanges
     → All GivesUtf8 (asked_of former) → All GivesUtf8 (asked_of exchanges)
     → All GivesUnraised (asked_of former) → All GivesUnraised (asked_of exchanges)
     → SpendsNone former → SpendsNone exchanges → SpendsNone again
-    → StandAlike last.pages its_last.pages
+    → its_last.stored ≡ last.stored

@@ -1,5 +1,4 @@
 pub mod Apart
-pub mod Causes
 pub mod Counting
 pub mod Drafts
 pub mod Holding
@@ -8,6 +7,5 @@ pub mod Keeping
 pub mod Parts
 pub mod PuttingBack
 pub mod Spending
-pub mod State
-pub mod Step
 pub mod Stepping
+pub mod Unchanged

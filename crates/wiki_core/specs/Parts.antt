@@ -16,11 +16,11 @@ use Rattle.wiki_talk.specs.declared.statuses.Status.{Status}
 use Rattle.articles.specs.declared.sentences.Sentence.{Sentence}
 use Rattle.articles.specs.declared.article.Article.{Article}
 use Rattle.articles.specs.Articles.{sentence_at}
-use Rattle.wiki_parts.specs.State.{State}
+use Rattle.plain_wiki.specs.State.{Stored}
 use Rattle.wiki_parts.specs.Kept.{stated_by}
-use Rattle.wiki_parts.specs.Knowledge.{is_asserted, live_names}
-use Rattle.wiki_parts.specs.Meanings.{Meaning, asking, Means}
-use Rattle.wiki_parts.specs.Places.{Placed, all_placed, told_place}
+use Rattle.plain_wiki.specs.Knowledge.{is_asserted, live_names}
+use Rattle.plain_wiki.specs.Meanings.{Meaning, asking, Means}
+use Rattle.plain_wiki.specs.Places.{Placed, all_placed, told_place}
 use Rattle.wiki_core.specs.declared.meaning.Meaning.{Meaning as Told}
 
 -- ---- parts
@@ -54,7 +54,7 @@ place_of part = record { article = part.article; at = part.at }
 
 -- The parts are those of the sentences that count, in order: where each stands, and the axioms that it states. These are plain, and over
 -- the live names.
-pub record AreParts (state : State) (taken : Option Place) (parts : List Part) : Type 0 where
+pub record AreParts (state : Stored) (taken : Option Place) (parts : List Part) : Type 0 where
   pub places : map place_of parts ≡ map told_place (counted taken state.articles)
   pub stated : AllZip (States state.grammar state.words) (counted taken state.articles) (claims_in parts)
   pub over : All (λ claims. IsTrue (are_over (live_names state.words) claims)) (claims_in parts)
@@ -73,7 +73,7 @@ pub record IsFitClass (words : Listed) (class : Class) : Type 0 where
   pub plain : IsTrue (is_plain (concept_of class))
 
 -- what is told of a sentence: its status, the axioms that it states, and the class that it asks for
-pub record IsMeaningOf (state : State) (sentence : Sentence) (told : Told) : Type 0 where
+pub record IsMeaningOf (state : Stored) (sentence : Sentence) (told : Told) : Type 0 where
   pub status : told.status ≡ sentence.status
   pub meaning : Meaning
   pub means : Means state.grammar state.words sentence.tokens meaning
@@ -82,7 +82,7 @@ pub record IsMeaningOf (state : State) (sentence : Sentence) (told : Told) : Typ
   pub fit : IfSome told.class (IsFitClass state.words)
 
 -- the sentence at the place is there, and this is told of it
-pub record IsMeaningAt (state : State) (word : WordId) (at : ℕ) (told : Told) : Type 0 where
+pub record IsMeaningAt (state : Stored) (word : WordId) (at : ℕ) (told : Told) : Type 0 where
   pub sentence : Sentence
   pub there : sentence_at state.articles word at ≡ Some sentence
   pub is : IsMeaningOf state sentence told

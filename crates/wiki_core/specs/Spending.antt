@@ -1,38 +1,30 @@
 -- What a step says of the model that was kept before it: no budget is told as spent where that model decides.
-use Rattle.std.specs.Prelude.{◌≡◌, ℕ, List, IfSome, Option, Some, None, option_map}
-use Rattle.logic_terms.specs.Concept.{Claim}
-use Rattle.logic_terms.specs.Reading.{IsModel}
-use Rattle.wiki_talk.specs.declared.statuses.Status.{Status}
-use Rattle.wiki_talk.specs.declared.statuses.Status.TheVariants.{Asserted, RedBudget}
+use Rattle.std.specs.Prelude.{Option, None, option_map}
+use Rattle.wiki_talk.specs.declared.statuses.Status.TheVariants.{Asserted}
 use Rattle.wiki_talk.specs.declared.replies.Reply.{Reply}
-use Rattle.wiki_talk.specs.declared.replies.Reply.TheVariants as replies
 use Rattle.wiki_talk.specs.declared.requests.Request.{Request}
 use Rattle.wiki_talk.specs.declared.requests.Request.TheVariants as requests
-use Rattle.wiki_parts.specs.State as parts
-use Rattle.wiki_parts.specs.Knowledge.{Knows}
-use Rattle.wiki_store.specs.Appending.{with_appended}
-use Rattle.wiki_store.specs.Spending as store
-use Rattle.wiki_core.specs.State.{State}
-use Rattle.wiki_core.specs.Causes.{session_numbered}
-use Rattle.wiki_core.specs.Holding.{Holding, pages_held}
+use Rattle.wiki_talk.specs.declared.requests.ArticleRequest.TheVariants as of_article
+use Rattle.wiki_talk.specs.declared.requests.SessionRequest.TheVariants as of_session
+use Rattle.plain_wiki.specs.State.{Stored, State}
+use Rattle.plain_wiki.specs.Places.{session_numbered}
+use Rattle.plain_wiki.specs.Doing.{with_appended}
+use Rattle.wiki_store.specs.Asking as store
+use Rattle.wiki_store.specs.Spending.{SpendsBeyond, KeptHasUnknownIn}
+use Rattle.wiki_core.specs.Holding.{Holding, store_held}
 
--- the words and sentences, with the tokens of a session taken as an asserted sentence at the end of its article
-abbrev pub taken_by_commit : State → ℕ → Option parts.State
-taken_by_commit old number =
-    option_map (λ session. with_appended old.pages session.article session.tokens Asserted) (session_numbered old number)
+-- what is stored, where the sentence that a request judges, if it judges one, is taken as asserted
+abbrev pub taken_by : State → Request → Option Stored
+taken_by old (requests.OnArticle form asked) = store.taken_by old.stored form asked
+taken_by old (requests.OnSession number of_session.Commit) =
+    option_map (λ session. with_appended old.stored session.article session.tokens Asserted) (session_numbered old number)
+taken_by old request = None
 
--- the status that a reply tells of a session's tokens
-abbrev pub status_committed : Reply → Option Status
-status_committed (replies.Commit article status text) = Some status
-status_committed reply = None
-
--- a session's tokens are red for the budget only where the kept interpretation is no model of what is known with them
-abbrev pub CommitSpendsBeyondKept : Holding → ℕ → Reply → Type 0
-CommitSpendsBeyondKept old number reply =
-    status_committed reply ≡ Some RedBudget
-    → IfSome (taken_by_commit old.state number) (λ taken. (claims : List Claim) → Knows taken claims → ¬ IsModel old.interpretation claims)
-
--- a new sentence is red for the budget only where the kept interpretation is no model of what is known with it
+-- a sentence that was judged is red for the budget only where the kept interpretation is no model of what is known with it
 abbrev pub SpendsBeyondKept : Holding → Request → Reply → Type 0
-SpendsBeyondKept old (requests.Commit number) reply = CommitSpendsBeyondKept old number reply
-SpendsBeyondKept old request reply = store.SpendsBeyondKept (pages_held old) request reply
+SpendsBeyondKept old request reply = SpendsBeyond (store_held old) (taken_by old.state request) reply
+
+-- the names that an article that is told tells as unknown are in the classes that its questions ask for, in the kept interpretation
+abbrev pub KeptHasEachUnknown : Holding → Request → Reply → Type 0
+KeptHasEachUnknown old (requests.OnArticle form of_article.Read) reply = KeptHasUnknownIn (store_held old) form reply
+KeptHasEachUnknown old request reply = Unit {0}

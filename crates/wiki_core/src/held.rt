@@ -5,7 +5,7 @@ ghost use Rattle.wiki_core.specs.Journaled.{IsHeld};
 
 use lexicon::LAST_NUMBER;
 use wiki_base::{Text8, Text8s};
-use wiki_talk::Request;
+use wiki_talk::{ArticleRequest, Request, WikiRequest, WordRequest};
 
 // Whether the forms or the text that a request gives are in UTF-8, and its place has 32 bits, as always.
 pub fn is_held(request: &Request) -> bool
@@ -13,14 +13,32 @@ pub fn is_held(request: &Request) -> bool
     ensures held { IsHeld request.now }
 {
     match request {
-        Request::Word { forms, .. } => are_utf8(forms),
-        Request::Reword { forms, .. } => are_utf8(forms),
-        Request::Grammar { text } => is_utf8(text),
-        Request::Add { at, .. } => is_short(at.unwrap_or(0)),
-        Request::Edit { at, .. } => is_short(*at),
-        Request::Remove { at, .. } => is_short(*at),
-        Request::Retract { at, .. } => is_short(*at),
-        Request::Reassert { at, .. } => is_short(*at),
+        Request::OnWiki(WikiRequest::Word { forms, .. }) => are_utf8(forms),
+        Request::OnWord {
+            asked: WordRequest::Reword { forms },
+            ..
+        } => are_utf8(forms),
+        Request::OnWiki(WikiRequest::Grammar { text }) => is_utf8(text),
+        Request::OnArticle {
+            asked: ArticleRequest::Add { at, .. },
+            ..
+        } => is_short(at.unwrap_or(0)),
+        Request::OnArticle {
+            asked: ArticleRequest::Edit { at, .. },
+            ..
+        } => is_short(*at),
+        Request::OnArticle {
+            asked: ArticleRequest::Remove { at },
+            ..
+        } => is_short(*at),
+        Request::OnArticle {
+            asked: ArticleRequest::Retract { at },
+            ..
+        } => is_short(*at),
+        Request::OnArticle {
+            asked: ArticleRequest::Reassert { at },
+            ..
+        } => is_short(*at),
         _ => true,
     }
 }

@@ -15,11 +15,11 @@ impl Wiki {
     ghost use Rattle.lexicon.specs.Words.{IsLexicon};
     ghost use Rattle.logic_terms.specs.Shown.{claims_of};
     ghost use Rattle.wiki_parts.specs.Holding.{IsStored};
-    ghost use Rattle.wiki_parts.specs.Knowledge.{Knows, live_names};
+    ghost use Rattle.plain_wiki.specs.Knowledge.{Knows, live_names};
 
     /// The grammar of sentences, in which each rule has a label.
     pub fn grammar(&self) -> &CheckedGrammar
-        ensures grammar { result.now ≡ self.now.state.pages.grammar }
+        ensures grammar { result.now ≡ self.now.state.stored.grammar }
         ensures labelled { IsTrue (is_labelled result.now) }
     {
         self.store.is_kept();
@@ -28,29 +28,29 @@ impl Wiki {
 
     /// The live words.
     pub fn lexicon(&self) -> &Lexicon
-        ensures { result.now ≡ self.now.state.pages.words }
+        ensures { result.now ≡ self.now.state.stored.words }
     {
         self.store.lexicon()
     }
 
     /// What the wiki knows: the axioms of all asserted sentences, articles in order of word number, sentences in order.
     pub fn asserted(&self) -> &Axioms
-        ensures { Knows self.now.state.pages (claims_of result.now) }
+        ensures { Knows self.now.state.stored (claims_of result.now) }
     {
         self.store.asserted()
     }
 
     /// The live words that are names, in order of number.
     pub fn names(&self) -> Result<Names, Memory>
-        ensures { IfOk result (λ names. names ≡ live_names self.now.state.pages.words) }
+        ensures { IfOk result (λ names. names ≡ live_names self.now.state.stored.words) }
     {
         live_names(self.alloc, self.store.lexicon())
     }
 
     /// The sentence at a place of a word's article, if there is one.
     pub fn sentence(&self, article: WordId, at: u32) -> Option<&Sentence>
-        ensures found { option_copied result ≡ sentence_at self.now.state.pages.articles article at }
-        ensures stored { IfSome result (λ sentence. IsStored self.now.state.pages sentence.now) }
+        ensures found { option_copied result ≡ sentence_at self.now.state.stored.articles article at }
+        ensures stored { IfSome result (λ sentence. IsStored self.now.state.stored sentence.now) }
     {
         self.store.is_kept();
         match self.store.article_of(article) {
@@ -61,8 +61,8 @@ impl Wiki {
 
     // The grammar is one without faults, and no two words share a form.
     pub(crate) fn is_fit(&self)
-        ensures grammar { IsSound self.now.state.pages.grammar }
-        ensures words { IsLexicon self.now.state.pages.words }
+        ensures grammar { IsSound self.now.state.stored.grammar }
+        ensures words { IsLexicon self.now.state.stored.words }
     {
         let _ = self.store.grammar().grammar();
         let _ = self.store.lexicon().len();

@@ -1,6 +1,7 @@
 //! The wiki: its state, and one step of it for each request.
 #![tactic(auto)]
 
+mod asking;
 mod causes;
 mod committing;
 mod held;

@@ -31,7 +31,7 @@ impl Wiki {
     /// What the sentence at a place of a word's article means, if there is one.
     pub fn meaning(&self, article: WordId, at: u32) -> Result<Option<Meaning>, Memory>
         ensures { IfOk result (λ told. MatchOption told
-            (sentence_at self.now.state.pages.articles article at ≡ None) (IsMeaningAt self.now.state.pages article at)) }
+            (sentence_at self.now.state.stored.articles article at ≡ None) (IsMeaningAt self.now.state.stored article at)) }
     {
         match self.sentence(article, at) {
             Some(sentence) => Ok(Some(self.meaning_of(sentence)?)),
@@ -41,8 +41,8 @@ impl Wiki {
 
     // What a stored sentence means.
     fn meaning_of(&self, sentence: &Sentence) -> Result<Meaning, Memory>
-        requires { IsStored self.now.state.pages sentence.now }
-        ensures { IfOk result (IsMeaningOf self.now.state.pages sentence.now) }
+        requires { IsStored self.now.state.stored sentence.now }
+        ensures { IfOk result (IsMeaningOf self.now.state.stored sentence.now) }
     {
         self.is_fit();
         match sense_of(

@@ -26,21 +26,21 @@ impl Wiki {
 
     /// The asserted sentences with the axioms that they state: articles in order of word number, sentences in order.
     pub fn parts(&self) -> Result<Parts, Memory>
-        ensures { IfOk result (AreParts self.now.state.pages None) }
+        ensures { IfOk result (AreParts self.now.state.stored None) }
     {
         self.parts_counted(None)
     }
 
     /// The same with the sentence at a place, if there is one, whatever its status is.
     pub fn parts_with(&self, place: Place) -> Result<Parts, Memory>
-        ensures { IfOk result (AreParts self.now.state.pages (Some place)) }
+        ensures { IfOk result (AreParts self.now.state.stored (Some place)) }
     {
         self.parts_counted(Some(place))
     }
 
     // The parts of the sentences that are asserted, or taken as asserted.
     fn parts_counted(&self, taken: Option<Place>) -> Result<Parts, Memory>
-        ensures { IfOk result (AreParts self.now.state.pages taken) }
+        ensures { IfOk result (AreParts self.now.state.stored taken) }
     {
         self.is_fit();
         self.store.is_kept();

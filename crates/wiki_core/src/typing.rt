@@ -2,41 +2,48 @@
 ghost use Rattle.std.specs.Prelude.{◌≡◌, ◌<◌, length, true, All, IsUtf8, IsSomeAnd, IfOk, IfErr, OnOk, OnErr};
 ghost use Rattle.wiki_base.specs.declared.tokens.TheConstants.{MOST_TOKENS};
 
+use crate::causes::has_place;
 use crate::wiki::Wiki;
 use derivations::{Menu, show};
 use editor::TypeFault;
 use lists::Copied;
 use wiki_base::{Memory, SessionId, Text8};
 use wiki_parts::{Fault, told_menu};
-use wiki_talk::{Refusal, Reply, Request};
+use wiki_talk::{Refusal, Reply, Request, SessionRequest};
 
 impl Wiki {
     ghost use Rattle.wiki_parts.specs.Faults.{IsFault, IsAbsent};
-    ghost use Rattle.wiki_core.specs.Causes.{session_numbered, IsNotOffered};
+    ghost use Rattle.plain_wiki.specs.Places.{session_numbered};
+    ghost use Rattle.plain_wiki.specs.Causes.{is_not_offered};
     ghost use Rattle.wiki_core.specs.Drafts.{with_typed};
-    ghost use Rattle.wiki_core.specs.Step.{StepsSession, Refuses};
-    ghost use Rattle.wiki_core.specs.Holding.{pages_held};
-    ghost use Rattle.wiki_store.specs.Unchanged.{KeepsInterpretation};
+    ghost use Rattle.wiki_parts.specs.Spending.{IsCutOff};
+    ghost use Rattle.plain_wiki.specs.Against.{Refuses};
+    ghost use Rattle.plain_wiki.specs.Step.{Step};
+    ghost use Rattle.wiki_core.specs.Unchanged.{KeepsInterpretation};
 
     // Types one token more.
     pub(crate) fn type_token(&mut self, number: u32, text: &Text8) -> Result<Reply, Fault>
-        ensures step { IfOk result (λ reply. StepsSession self.old.state (Request.Put number text.now) reply self.new.state) }
-        ensures interpretation { IfOk result (λ reply. KeepsInterpretation (pages_held self.old) reply (pages_held self.new)) }
-        ensures refused { IfErr result (IsFault (Refuses self.old.state (Request.Put number text.now))) }
+        ensures step { IfOk result (λ reply. Step (IsCutOff self.old.budget) self.old.state (Request.OnSession number (SessionRequest.Type text.now)) reply
+            self.new.state) }
+        ensures budget { self.new.budget ≡ self.old.budget }
+        ensures interpretation { IfOk result (λ reply. KeepsInterpretation self.old reply self.new) }
+        ensures refused { IfErr result (IsFault (Refuses self.old.state (Request.OnSession number (SessionRequest.Type text.now)))) }
         ensures kept { OnErr result (self.new ≡ self.old) }
     {
         let session = self.session(number)?;
-        let count = self.has_place(session, number)?;
+        let count = has_place(session)?;
         self.put(number, text)?;
-        Ok(Reply::Put { tokens: count + 1 })
+        Ok(Reply::Type { tokens: count + 1 })
     }
 
     // Adds the text as a token, if the menu of the session's tokens has it.
     fn put(&mut self, number: u32, text: &Text8) -> Result<(), Fault>
         requires { IsSomeAnd (session_numbered self.old.state number) (λ session. length session.tokens < MOST_TOKENS) }
         ensures typed { OnOk result (self.new ≡ with_typed self.old number text.now) }
-        ensures absent { OnOk result (IsAbsent (IsNotOffered self.old.state number text.now)) }
-        ensures refused { IfErr result (IsFault (IsNotOffered self.old.state number text.now)) }
+        ensures absent { OnOk result (IsSomeAnd (session_numbered self.old.state number)
+            (λ session. IsAbsent (is_not_offered self.old.state.stored session text.now))) }
+        ensures refused { IfErr result (λ fault. IsSomeAnd (session_numbered self.old.state number)
+            (λ session. IsFault (is_not_offered self.old.state.stored session text.now) fault)) }
         ensures kept { OnErr result (self.new ≡ self.old) }
     {
         let typed = self.sessions.type_token(
@@ -56,9 +63,11 @@ impl Wiki {
 
     // Drops the last token.
     pub(crate) fn back(&mut self, number: u32) -> Result<Reply, Fault>
-        ensures step { IfOk result (λ reply. StepsSession self.old.state (Request.Back number) reply self.new.state) }
-        ensures interpretation { IfOk result (λ reply. KeepsInterpretation (pages_held self.old) reply (pages_held self.new)) }
-        ensures refused { IfErr result (IsFault (Refuses self.old.state (Request.Back number))) }
+        ensures step { IfOk result (λ reply. Step (IsCutOff self.old.budget) self.old.state (Request.OnSession number SessionRequest.Back) reply
+            self.new.state) }
+        ensures budget { self.new.budget ≡ self.old.budget }
+        ensures interpretation { IfOk result (λ reply. KeepsInterpretation self.old reply self.new) }
+        ensures refused { IfErr result (IsFault (Refuses self.old.state (Request.OnSession number SessionRequest.Back))) }
         ensures kept { OnErr result (self.new ≡ self.old) }
     {
         let count = self.session(number)?.editor.tokens().len();
@@ -73,8 +82,9 @@ impl Wiki {
 
     // Tells what may follow the tokens.
     pub(crate) fn menu(&self, number: u32) -> Result<Reply, Fault>
-        ensures step { IfOk result (λ reply. StepsSession self.now.state (Request.Menu number) reply self.now.state) }
-        ensures refused { IfErr result (IsFault (Refuses self.now.state (Request.Menu number))) }
+        ensures step { IfOk result (λ reply. Step (IsCutOff self.now.budget) self.now.state (Request.OnSession number SessionRequest.Menu) reply
+            self.now.state) }
+        ensures refused { IfErr result (IsFault (Refuses self.now.state (Request.OnSession number SessionRequest.Menu))) }
     {
         let editor = &self.session(number)?.editor;
         let menu = editor.menu(self.store.grammar(), self.store.lexicon())?;

@@ -1,6 +1,5 @@
 // The wiki and its step.
-ghost use Rattle.std.specs.Prelude.{◌≡◌, Err, IsTrue, IfOk, OnErr};
-ghost use Rattle.wiki_talk.specs.declared.refusals.Refusal.{Refusal as TheRefusal};
+ghost use Rattle.std.specs.Prelude.{◌≡◌, Err, IsTrue, IfOk, IfErr, OnErr};
 ghost use Rattle.wiki_parts.specs.Faults.{Tells};
 
 use crate::held::is_held;
@@ -13,8 +12,8 @@ use wiki_parts::Fault;
 use wiki_store::Store;
 use wiki_talk::{Reply, Request};
 
-/// A wiki: words, articles and sentences, and the sessions in which sentences are typed. It is seen as its state, and the
-/// interpretation that it keeps of what it knows.
+/// A wiki: words, articles and sentences, and the sessions in which sentences are typed. It is seen as its state, the budget of a
+/// search, and the interpretation that it keeps of what it knows.
 #[derive(Drop)]
 pub struct Wiki {
     pub(crate) alloc: Global,
@@ -32,7 +31,8 @@ impl Model for Wiki {
     ghost Value = { Holding };
 
     ghost view = { λ w. record {
-      state = record { pages = w.store.state; sessions = all_plain w.sessions; last = w.last };
+      state = record { stored = w.store.state; sessions = all_plain w.sessions; last = w.last };
+      budget = w.store.budget;
       interpretation = w.store.interpretation;
     } };
 
@@ -42,12 +42,14 @@ impl Model for Wiki {
 impl Wiki {
     ghost use Rattle.codeco_checked.specs.Sound.{is_labelled};
     ghost use Rattle.wiki_core.specs.Apart.{MenuIsOwn, TokensAreOwn};
-    ghost use Rattle.wiki_core.specs.Holding.{first_holding, pages_held, IsKept};
+    ghost use Rattle.wiki_core.specs.Holding.{first_holding, IsKept};
     ghost use Rattle.wiki_core.specs.Journaled.{NoneIsRaised, AreUtf8, IsHeld, StandsAgain, ChangesFitLines};
-    ghost use Rattle.wiki_core.specs.Spending.{SpendsBeyondKept};
-    ghost use Rattle.wiki_core.specs.Step.{Step, StepsSession};
-    ghost use Rattle.wiki_store.specs.Spending.{KeptHasEachUnknown};
-    ghost use Rattle.wiki_store.specs.Unchanged.{KeepsInterpretation};
+    ghost use Rattle.wiki_core.specs.Spending.{SpendsBeyondKept, KeptHasEachUnknown};
+    ghost use Rattle.plain_wiki.specs.Step.{Step};
+    ghost use Rattle.wiki_parts.specs.Faults.{IsFault};
+    ghost use Rattle.wiki_parts.specs.Spending.{IsCutOff};
+    ghost use Rattle.plain_wiki.specs.Against.{Refuses};
+    ghost use Rattle.wiki_core.specs.Unchanged.{KeepsInterpretation};
 
     /// A wiki without words and sessions, over a grammar in which each rule has a label. A search may take `budget` steps.
     pub fn new(alloc: Global, grammar: CheckedGrammar, budget: u64) -> Result<Wiki, Memory>
@@ -70,17 +72,18 @@ impl Wiki {
 
     /// Does one request, or refuses it, which changes nothing.
     pub fn step(&mut self, request: &Request) -> Result<Reply, Memory>
-        ensures step { IfOk result (λ reply. Step self.old.state request.now reply self.new.state) }
+        ensures step { IfOk result (λ reply. Step (IsCutOff self.old.budget) self.old.state request.now reply self.new.state) }
+        ensures budget { self.new.budget ≡ self.old.budget }
         ensures spent { IfOk result (SpendsBeyondKept self.old request.now) }
-        ensures unknown { IfOk result (KeptHasEachUnknown (pages_held self.old) request.now) }
-        ensures interpretation { IfOk result (λ reply. KeepsInterpretation (pages_held self.old) reply (pages_held self.new)) }
+        ensures unknown { IfOk result (KeptHasEachUnknown self.old request.now) }
+        ensures interpretation { IfOk result (λ reply. KeepsInterpretation self.old reply self.new) }
         ensures kept { IsKept self.new }
         ensures menu { IfOk result (MenuIsOwn self.old.state request.now) }
         ensures held { IsHeld request.now }
         ensures memory { OnErr result (self.new ≡ self.old) }
     {
         prove!(is_held(request));
-        let reply = self.carry_out(request);
+        let reply = told(self.carry_out(request));
         self.is_kept();
         reply
     }
@@ -93,42 +96,27 @@ impl Wiki {
         let _ = self.sessions.as_slice();
     }
 
-    // Does one request, or refuses it.
-    fn carry_out(&mut self, request: &Request) -> Result<Reply, Memory>
-        ensures step { IfOk result (λ reply. Step self.old.state request.now reply self.new.state) }
+    // Does one request, or tells why it is refused.
+    fn carry_out(&mut self, request: &Request) -> Result<Reply, Fault>
+        ensures step { IfOk result (λ reply. Step (IsCutOff self.old.budget) self.old.state request.now reply self.new.state) }
+        ensures budget { self.new.budget ≡ self.old.budget }
         ensures spent { IfOk result (SpendsBeyondKept self.old request.now) }
-        ensures unknown { IfOk result (KeptHasEachUnknown (pages_held self.old) request.now) }
-        ensures interpretation { IfOk result (λ reply. KeepsInterpretation (pages_held self.old) reply (pages_held self.new)) }
-        ensures memory { OnErr result (self.new ≡ self.old) }
+        ensures unknown { IfOk result (KeptHasEachUnknown self.old request.now) }
+        ensures interpretation { IfOk result (λ reply. KeepsInterpretation self.old reply self.new) }
+        ensures refused { IfErr result (IsFault (Refuses self.old.state request.now)) }
+        ensures kept { OnErr result (self.new ≡ self.old) }
     {
         match request {
-            Request::Begin { article } => told(self.open(article)),
-            Request::Put { session, text } => told(self.type_token(*session, text)),
-            Request::Back { session } => told(self.back(*session)),
-            Request::Menu { session } => told(self.menu(*session)),
-            Request::Commit { session } => told(self.commit(*session)),
-            Request::Refresh { session } => told(self.refresh(*session)),
-            Request::Drop { session } => told(self.end(*session)),
-            Request::Word { .. } => self.add_word(request),
-            Request::Reword { word, forms } => told(self.reword(word, forms.as_slice())),
-            Request::Unword { word } => told(self.unword(word)),
-            Request::Grammar { text } => told(self.reground(text)),
-            Request::Find { .. } => self.step_pages(request),
-            Request::Words => self.step_pages(request),
-            Request::Parse { .. } => self.step_pages(request),
-            Request::Add { .. } => self.step_pages(request),
-            Request::Edit { .. } => self.step_pages(request),
-            Request::Remove { .. } => self.step_pages(request),
-            Request::Retract { .. } => self.step_pages(request),
-            Request::Reassert { .. } => self.step_pages(request),
-            Request::Read { .. } => self.step_pages(request),
-            Request::Axioms { .. } => self.step_pages(request),
+            Request::OnWiki(asked) => self.on_wiki(asked),
+            Request::OnWord { word, asked } => self.on_word(word, asked),
+            Request::OnArticle { article, asked } => self.on_article(article, asked),
+            Request::OnSession { session, asked } => self.on_session(*session, asked),
         }
     }
 }
 
 // The reply to a request that is done or refused.
-pub(crate) fn told(done: Result<Reply, Fault>) -> Result<Reply, Memory>
+fn told(done: Result<Reply, Fault>) -> Result<Reply, Memory>
     ensures told { IfOk result (λ reply. Tells done reply) }
     ensures memory { OnErr result (done ≡ Err Fault.Memory) }
 {

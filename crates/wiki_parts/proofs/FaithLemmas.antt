@@ -16,7 +16,7 @@ use Rattle.drs_build.specs.Nodes.{meaning_of}
 use Rattle.drs_build.specs.Built.{IsDerived, is_question}
 use Rattle.drs_build.proofs.DerivedLemmas.{derived_once, least_derived}
 use Rattle.drs_build.proofs.QuestionLemmas.{asked_introduced}
-use Rattle.wiki_parts.specs.Meanings.{statement_by, question_by, statement_meaning, question_meaning, skeleton_meaning, KeepsTruth, MeansFaithfully}
+use Rattle.plain_wiki.specs.Meanings.{statement_by, question_by, statement_meaning, question_meaning, skeleton_meaning, KeepsTruth, MeansFaithfully}
 
 stated : (k : Structure) (asked : ℕ) (made : Result (List Claim) Cause) → IntroducesOnce k → axioms_stated k ≡ made → KeepsTruth k asked (statement_by made)
 stated k asked (Ok claims) once is = (statement_keeps k claims is once, statement_reads k claims is once)

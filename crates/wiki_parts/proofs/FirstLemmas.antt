@@ -4,7 +4,7 @@ use Rattle.wiki_talk.specs.declared.refusals.Refusal.{Refusal}
 use Rattle.wiki_parts.specs.declared.faults.Fault.{Fault}
 use Rattle.wiki_parts.specs.declared.faults.Fault.TheVariants.{Refused, Memory}
 use Rattle.wiki_parts.specs.Faults.{IsFault, IsAbsent}
-use Rattle.wiki_parts.specs.Refusing.{FirstOf}
+use Rattle.plain_wiki.specs.Causes.{FirstOf}
 
 -- the second of two causes stands alone
 pub first_of_two : (a b : Refusal → Type 0) (others : List (Refusal → Type 0)) (refusal : Refusal) → IsAbsent a → b refusal → FirstOf (a ∷ b ∷ others) refusal

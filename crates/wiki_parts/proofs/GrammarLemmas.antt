@@ -17,7 +17,7 @@ use Rattle.wiki_talk.specs.declared.refusals.Refusal.TheVariants.{GrammarRefused
 use Rattle.wiki_parts.specs.declared.faults.Fault.{Fault}
 use Rattle.wiki_parts.specs.declared.faults.Fault.TheVariants.{Refused, Memory}
 use Rattle.wiki_parts.specs.Faults.{IsFault}
-use Rattle.wiki_parts.specs.Refusing.{FirstOf, IsNoGrammar, IsBare, fault_name, fault_place}
+use Rattle.plain_wiki.specs.Causes.{FirstOf, is_no_grammar, is_bare, fault_name, fault_place}
 
 -- a grammar was read
 abbrev is_grammar : Result GrammarParts GrammarFault → Bool
@@ -70,23 +70,21 @@ module _ (text : List ℕ) where
       → ((g : GrammarParts) → IsTrue (is_in_size text) → Makes text g → IsFaultless g → Gives g read)
       → IsFault (λ refusal. refusal ≡ GrammarRefused (fault_name fault) (fault_place fault)) told
       → (fault ≡ faults.Memory → told ≡ Memory)
-      → IsFault (FirstOf (IsNoGrammar text ∷ IsBare text ∷ [])) told
+      → IsFault (FirstOf (is_no_grammar text ∷ is_bare text ∷ [])) told
   no_grammar read fault Memory is over within accepts tells memory = tt
   no_grammar read fault (Refused refusal) is over within accepts tells memory =
       let other : ¬ (fault ≡ faults.Memory) = λ same. refused_for_memory refusal (memory same) in
-      inl (record {
-        none = λ g h. other (subst (λ (r : Result GrammarParts GrammarFault). Gives g r) is (accepts g h.in_size h.makes h.faultless));
-        fault = fault;
-        is = fault_of fault other (in_or_over fault (λ large. sym (ap fault_or_memory is) ∙ ap fault_or_memory (over large)) within);
-        told = tells;
-      })
+      inl (
+        (λ g h. other (subst (λ (r : Result GrammarParts GrammarFault). Gives g r) is (accepts g h.in_size h.makes h.faultless))),
+        (fault, fault_of fault other (in_or_over fault (λ large. sym (ap fault_or_memory is) ∙ ap fault_or_memory (over large)) within), tells),
+      )
     where
       refused_for_memory : (r : Refusal) → Refused r ≡ Memory → ⊥
       refused_for_memory r same = cc same
 
   -- a text that makes a grammar isn't refused for a fault, but where the rules have no labels
-  pub bare_grammar : (g : GrammarParts) → IsTextOf text g → is_labelled g ≡ false → IsFault (FirstOf (IsNoGrammar text ∷ IsBare text ∷ [])) (Refused Bare)
-  bare_grammar g is bare = inr ((λ refusal none. none.none g is), inl (record { g = g; is = is; bare = bare; told = refl }))
+  pub bare_grammar : (g : GrammarParts) → IsTextOf text g → is_labelled g ≡ false → IsFault (FirstOf (is_no_grammar text ∷ is_bare text ∷ [])) (Refused Bare)
+  bare_grammar g is bare = inr ((λ refusal none. none.0 g is), inl (g, is, (bare, refl)))
 
 -- ---- words beside other terminals
 

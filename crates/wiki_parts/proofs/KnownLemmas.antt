@@ -12,8 +12,8 @@ use Rattle.wiki_talk.specs.declared.statuses.Status.TheVariants.{Asserted, Retra
 use Rattle.articles.specs.declared.sentences.Sentence.{Sentence}
 use Rattle.articles.specs.declared.article.Article.{Article}
 use Rattle.wiki_parts.specs.declared.meanings.Sense.{Sense}
-use Rattle.wiki_parts.specs.Meanings.{Meaning, stating, outside, asking, asking_outside, Means}
-use Rattle.wiki_parts.specs.Knowledge.{is_asserted, StatesFirst, AreStated, sentences_in}
+use Rattle.plain_wiki.specs.Meanings.{Meaning, stating, outside, asking, asking_outside, Means}
+use Rattle.plain_wiki.specs.Knowledge.{is_asserted, StatesFirst, AreStated, sentences_in}
 use Rattle.wiki_parts.specs.Holding.{FitsMeaning}
 use Rattle.wiki_parts.specs.Found.{meaning_shown}
 use Rattle.wiki_parts.specs.Kept.{stated_by, known_of, meanings_in, MeanEach, MeanInEach, known_in}

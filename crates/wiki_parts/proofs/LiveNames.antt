@@ -31,8 +31,7 @@ use Rattle.scopes.specs.Resolution.{has_value, agrees}
 use Rattle.lexicon.specs.declared.kinds.Kind.{Kind}
 use Rattle.lexicon.specs.declared.kinds.Kind.TheVariants.{Name, Noun, Of, Verb, Adjective}
 use Rattle.lexicon.specs.declared.words.Word.{Word}
-use Rattle.lexicon.specs.Words.{Listed, has_form, SharesNoForm}
-use Rattle.lexicon.specs.Words.{is_among as is_form}
+use Rattle.lexicon.specs.Words.{Listed, has_form, SharesNoForm, is_among as is_form}
 use Rattle.lexicon.specs.Readings.{reading, readings_from, readings_of_word, readings_of}
 use Rattle.derivation_trees.specs.declared.skeletons.Skeleton.{Skeleton}
 use Rattle.derivation_trees.specs.declared.skeletons.Skeleton.TheViews.{out-roll-Skeleton}
@@ -43,12 +42,11 @@ use Rattle.derivation_trees.specs.Instances.{under}
 use Rattle.derivation_trees.specs.Derives.{At, Stand, pass, pass_token, pass_child, run, phrase, phrase_of, phrases_of, rule_with, text_category, IsDerivation}
 use Rattle.derivation_trees.specs.Skeletons.{word_among, word_in, word_at, word_here, child_here, met, start, end_place, skeleton, skeleton_at, skeletons_at, skeleton_of}
 use Rattle.derivations.proofs.ListingLemmas.{Parts, phrase_parts}
-use Rattle.drs_build.specs.Nodes.{label_of, is_naming, no_word, own_name, introduced_at, ends_of, names_of}
-use Rattle.drs_build.specs.Nodes.{is_name as is_name_word}
+use Rattle.drs_build.specs.Nodes.{label_of, is_naming, no_word, own_name, introduced_at, ends_of, names_of, is_name as is_name_word}
 use Rattle.derivation_trees.specs.Sketches.{body_of}
 use Rattle.drs_build.proofs.NodeLemmas.{names_of_is}
 use Rattle.drs_build.proofs.GrammarLemmas.{Found, found, taken}
-use Rattle.wiki_parts.specs.Knowledge.{is_name, live_names}
+use Rattle.plain_wiki.specs.Knowledge.{is_name, live_names}
 use Rattle.wiki_parts.proofs.NameLemmas.{names_among}
 use Rattle.wiki_parts.proofs.PassingLemmas.{words_pass}
 

@@ -5,9 +5,9 @@ use Rattle.lexicon.specs.Words.{Listed}
 use Rattle.logic_terms.specs.Concept.{Claim}
 use Rattle.derivation_trees.specs.Sentences.{setting_of}
 use Rattle.articles.specs.declared.sentences.Sentence.{Sentence}
-use Rattle.wiki_parts.specs.State.{State}
-use Rattle.wiki_parts.specs.Meanings.{Meaning, stating, Means, skeleton_meaning}
-use Rattle.wiki_parts.specs.Knowledge.{is_asserted, StatesFirst, AreStated, Knows, sentences_in}
+use Rattle.plain_wiki.specs.State.{Stored}
+use Rattle.plain_wiki.specs.Meanings.{Meaning, stating, Means, skeleton_meaning}
+use Rattle.plain_wiki.specs.Knowledge.{is_asserted, StatesFirst, AreStated, Knows, sentences_in}
 use Rattle.derivations.proofs.UniqueLemmas.{least_unique}
 
 -- tokens have at most one meaning
@@ -37,5 +37,5 @@ stated_one g words (sentence ∷ sentences) one other a b = by (is_asserted sent
     by false behind x y = behind one other x y
 
 -- a wiki knows at most one list of axioms
-pub knows_one : (state : State) (one other : List Claim) → Knows state one → Knows state other → one ≡ other
+pub knows_one : (state : Stored) (one other : List Claim) → Knows state one → Knows state other → one ≡ other
 knows_one state one other a b = stated_one state.grammar state.words (sentences_in state.articles) one other a b

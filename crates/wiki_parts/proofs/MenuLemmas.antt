@@ -8,7 +8,7 @@ use Rattle.std.proofs.lemmas.List.Elements.{filter-append}
 use Rattle.wiki_base.proofs.ListLaws.{take_slice_get}
 use Rattle.derivation_trees.specs.declared.menus.Group.{Group}
 use Rattle.derivation_trees.specs.Menus.{group_number}
-use Rattle.wiki_parts.specs.Parsing.{of_group}
+use Rattle.plain_wiki.specs.Parsing.{of_group}
 
 -- numbers that are equal pass the test
 eqb_from : {a b : ℕ} → a ≡ b → (a == b) ≡ true

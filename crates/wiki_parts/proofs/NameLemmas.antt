@@ -11,7 +11,7 @@ use Rattle.std.proofs.lemmas.Option.{slice_get_within, get_or_from_slice_get}
 use Rattle.wiki_base.specs.declared.numbers.WordId.{WordId}
 use Rattle.answers.proofs.AskedLemmas.{rises_on}
 use Rattle.lexicon.specs.declared.words.Word.{Word}
-use Rattle.wiki_parts.specs.Knowledge.{is_name}
+use Rattle.plain_wiki.specs.Knowledge.{is_name}
 
 -- the names among words
 abbrev pub names_among : List Word → List WordId

@@ -26,10 +26,10 @@ use Rattle.articles.specs.declared.article.Article.{Article}
 use Rattle.drs_build.specs.Nodes.{names_of, meaning_of}
 use Rattle.drs_build.specs.Built.{is_question}
 use Rattle.wiki_parts.specs.declared.meanings.Sense.{Sense}
-use Rattle.wiki_parts.specs.State.{State}
-use Rattle.wiki_parts.specs.Knowledge.{is_asserted, StatesFirst, AreStated, Knows, sentences_in, live_names}
+use Rattle.plain_wiki.specs.State.{Stored}
+use Rattle.plain_wiki.specs.Knowledge.{is_asserted, StatesFirst, AreStated, Knows, sentences_in, live_names}
 use Rattle.wiki_parts.specs.Kept.{stated_by, known_of, known_in, meanings_in, MeanEach, MeanInEach}
-use Rattle.wiki_parts.specs.Meanings.{Meaning, stating, asking, statement_by, question_by, statement_meaning, question_meaning, Means}
+use Rattle.plain_wiki.specs.Meanings.{Meaning, stating, asking, statement_by, question_by, statement_meaning, question_meaning, Means}
 use Rattle.wiki_parts.proofs.Mentions.{names_pass}
 use Rattle.wiki_parts.proofs.LiveNames.{names_pass_live}
 use Rattle.wiki_parts.proofs.MentionLemmas.{statement_passes, question_passes}
@@ -172,13 +172,13 @@ pub known_plain : (g : GrammarParts) (words : Listed) (articles : List Article) 
 known_plain g words articles senses mean = known_in_pass g words is_plain_claim (stated_plain g words) articles senses mean
 
 -- what a wiki knows is over its live names, and plain
-pub knows_over : (state : State) (claims : List Claim) → IsSound state.grammar → AllPairs SharesNoForm state.words.live → Knows state claims
+pub knows_over : (state : Stored) (claims : List Claim) → IsSound state.grammar → AllPairs SharesNoForm state.words.live → Knows state claims
     → are_over (live_names state.words) claims ≡ true
 knows_over state claims sound apart knows =
     are_stated_pass state.grammar state.words (λ claim. list_all (is_among (live_names state.words)) (names_in_claim claim))
     (stated_over state.grammar sound state.words apart) (sentences_in state.articles) claims knows
 
-pub knows_plain : (state : State) (claims : List Claim) → Knows state claims → are_plain claims ≡ true
+pub knows_plain : (state : Stored) (claims : List Claim) → Knows state claims → are_plain claims ≡ true
 knows_plain state claims knows = are_stated_pass state.grammar state.words is_plain_claim (stated_plain state.grammar state.words) (sentences_in state.articles)
     claims knows
 

@@ -1,8 +1,7 @@
 -- The first sentence that needs a word.
 use Rattle.std.proofs.Common.{◌≡◌, ℕ, ◌+◌, ◌<◌, ◌==◌, ◌||◌, Bool, true, false, cond, List, [], ◌∷◌, ◌++◌, length, map, drop, get_or, find, Option, Some, None, IsSome, refl, sym, ap, ◌∙◌, option_map}
-use Rattle.std.specs.List.{list_any}
+use Rattle.std.specs.List.{list_any, slice_get}
 use Rattle.std.proofs.lemmas.Bool.{false≢true}
-use Rattle.std.specs.List.{slice_get}
 use Rattle.std.proofs.lemmas.Option.{none-some}
 use Rattle.std.specs.Option.{option_map_or, option_or}
 use Rattle.std.proofs.lemmas.List.{drop_more}
@@ -16,8 +15,8 @@ use Rattle.lexicon.specs.Words.{is_among, has_number, forms_of}
 use Rattle.articles.specs.declared.sentences.Sentence.{Sentence}
 use Rattle.articles.specs.declared.article.Article.{Article}
 use Rattle.articles.specs.Articles.{article_of}
-use Rattle.wiki_parts.specs.Refusing.{uses_word}
-use Rattle.wiki_parts.specs.Places.{Placed, placed_from, placed_in, all_placed, told_place}
+use Rattle.plain_wiki.specs.Causes.{uses_word}
+use Rattle.plain_wiki.specs.Places.{Placed, placed_from, placed_in, all_placed, told_place}
 
 -- a place in the article of a word
 abbrev pub place_in : WordId → ℕ → Place

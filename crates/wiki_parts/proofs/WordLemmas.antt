@@ -14,8 +14,8 @@ use Rattle.lexicon.specs.Readings.{readings_of_word, readings_of}
 use Rattle.derivation_trees.specs.Skeletons.{IsLeast}
 use Rattle.logic_terms.specs.Concept.{Claim}
 use Rattle.articles.specs.declared.sentences.Sentence.{Sentence}
-use Rattle.wiki_parts.specs.Meanings.{Meaning, stating, Means}
-use Rattle.wiki_parts.specs.Knowledge.{is_asserted, StatesFirst, AreStated}
+use Rattle.plain_wiki.specs.Meanings.{Meaning, stating, Means}
+use Rattle.plain_wiki.specs.Knowledge.{is_asserted, StatesFirst, AreStated}
 
 -- a word that comes leaves the readings of a token that is none of its forms
 pub readings-with : (live : List Word) (word : Word) (token : List ℕ) → has_form token word ≡ false

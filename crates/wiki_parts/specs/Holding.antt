@@ -9,13 +9,15 @@ use Rattle.wiki_talk.specs.declared.statuses.Status.{Status}
 use Rattle.wiki_talk.specs.declared.statuses.Status.TheVariants.{Asserted, Retracted, RedContradiction, RedBudget, Outside, Question, QuestionOutside}
 use Rattle.articles.specs.declared.sentences.Sentence.{Sentence}
 use Rattle.articles.specs.Articles.{AreInOrder}
-use Rattle.wiki_parts.specs.State.{State, IsSound, first_state}
-use Rattle.wiki_parts.specs.Meanings.{Meaning, stating, outside, asking, asking_outside, Means, MeansFaithfully}
-use Rattle.wiki_parts.specs.Knowledge.{sentences_in, Knows}
+use Rattle.plain_wiki.specs.State.{Stored, first_stored}
+use Rattle.wiki_parts.specs.Sound.{IsSound}
+use Rattle.plain_wiki.specs.Meanings.{Meaning, stating, outside, asking, asking_outside, Means, MeansFaithfully}
+use Rattle.plain_wiki.specs.Knowledge.{sentences_in, Knows}
 
--- a wiki: its state, and the interpretation that it keeps
+-- a wiki: what is stored, how many steps a search may take, and the interpretation that it keeps
 pub record Holding : Type 0 where
-  pub state : State
+  pub state : Stored
+  pub budget : ℕ
   pub interpretation : Interpretation
 
 -- the interpretation of one element, in which nothing holds
@@ -24,7 +26,7 @@ first_interpretation = record { size = 1; names = []; classes = []; relations = 
 
 -- the wiki without words, which knows nothing
 abbrev pub first_holding : GrammarParts → ℕ → Holding
-first_holding grammar budget = record { state = first_state grammar budget; interpretation = first_interpretation }
+first_holding grammar budget = record { state = first_stored grammar; budget = budget; interpretation = first_interpretation }
 
 -- the status is one that a sentence of this meaning may have
 abbrev pub FitsMeaning : Status → Meaning → Type 0
@@ -38,7 +40,7 @@ FitsMeaning (QuestionOutside cause) (asking_outside other) = cause ≡ other
 FitsMeaning _ _ = ⊥
 
 -- a stored sentence: it has a derivation from the present words, what it means keeps its truth, and its status fits that
-pub record IsStored (state : State) (sentence : Sentence) : Type 0 where
+pub record IsStored (state : Stored) (sentence : Sentence) : Type 0 where
   pub meaning : Meaning
   pub means : Means state.grammar state.words sentence.tokens meaning
   pub faithful : MeansFaithfully state.grammar state.words sentence.tokens

@@ -14,9 +14,11 @@ use Rattle.wiki_talk.specs.declared.statuses.Status.TheVariants.{Asserted, Outsi
 use Rattle.articles.specs.declared.sentences.Sentence.{Sentence}
 use Rattle.articles.specs.declared.article.Article.{Article}
 use Rattle.wiki_parts.specs.declared.meanings.Sense.{Sense}
-use Rattle.wiki_parts.specs.Meanings.{Meaning, stating, outside, asking, asking_outside, Means}
-use Rattle.wiki_parts.specs.Knowledge.{is_asserted, sentences_in, IsAllowed}
-use Rattle.wiki_parts.specs.State.{State, IsSound}
+use Rattle.plain_wiki.specs.Meanings.{Meaning, stating, outside, asking, asking_outside, Means}
+use Rattle.plain_wiki.specs.Knowledge.{is_asserted, sentences_in, IsAllowed}
+use Rattle.plain_wiki.specs.State.{Stored}
+use Rattle.wiki_parts.specs.Sound.{IsSound}
+use Rattle.wiki_parts.specs.Spending.{IsCutOff}
 use Rattle.wiki_parts.specs.Holding.{FitsMeaning}
 use Rattle.wiki_parts.specs.Found.{meaning_shown}
 
@@ -86,14 +88,14 @@ pub record IsAround (articles : List Article) (senses : List (List Sense)) (plac
 -- The status of a sentence with this meaning, where these are all axioms, its own among them.
 abbrev pub Stands : List Claim → List WordId → ℕ → Meaning → Status → Type 0
 Stands claims names budget (stating []) status = status ≡ Asserted
-Stands claims names budget (stating (claim ∷ own)) status = IsAllowed claims names budget status
+Stands claims names budget (stating (claim ∷ own)) status = IsAllowed claims names (IsCutOff budget) status
 Stands claims names budget (outside cause) status = status ≡ Outside cause
 Stands claims names budget (asking concept) status = status ≡ Question
 Stands claims names budget (asking_outside cause) status = status ≡ QuestionOutside cause
 
 -- What the program keeps beside a state: the meaning of each sentence, and a model of the axioms that are known. Each sentence
 -- is one of so many tokens at most, and there are so many sentences at most.
-pub record IsKeeping (state : State) (senses : List (List Sense)) (model : CheckedModel) : Type 0 where
+pub record IsKeeping (state : Stored) (senses : List (List Sense)) (model : CheckedModel) : Type 0 where
   pub sound : IsSound state
   pub mean : MeanInEach state.grammar state.words state.articles senses
   pub known : kept_claims model ≡ known_in state.articles senses

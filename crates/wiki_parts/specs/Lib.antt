@@ -3,11 +3,5 @@ pub mod Found
 pub mod Holding
 pub mod Judgements
 pub mod Kept
-pub mod Knowledge
-pub mod Meanings
-pub mod Parsing
-pub mod Places
-pub mod Refusing
-pub mod State
-pub mod Telling
-pub mod Words
+pub mod Sound
+pub mod Spending

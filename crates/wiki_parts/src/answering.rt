@@ -11,8 +11,9 @@ ghost use Rattle.logic_terms.specs.Shown.{concept_of};
 ghost use Rattle.owl_eval.specs.Checked.{kept_interp, kept_claims};
 ghost use Rattle.consequences.specs.Known.{theory_in};
 ghost use Rattle.wiki_base.specs.declared.numbers.WordId.{WordId};
-ghost use Rattle.wiki_parts.specs.Knowledge.{Answer, live_names};
-ghost use Rattle.wiki_parts.specs.Telling.{spelled};
+ghost use Rattle.plain_wiki.specs.Knowledge.{Answer, live_names};
+ghost use Rattle.plain_wiki.specs.Telling.{spelled};
+ghost use Rattle.wiki_parts.specs.Spending.{IsCutOff};
 
 use answers::{Answers, ask, ask_known};
 use consequences::Consequences;
@@ -35,7 +36,7 @@ pub fn answers_of(
     requires absorbed { IfSome known.now (λ k. IsAbsorbed (kept_claims kept.now) names.now (theory_in k)) }
     requires over { IsTrue (are_over names.now (kept_claims kept.now) && list_all (is_among names.now) (names_in (concept_of class.now))) }
     requires plain { IsTrue (are_plain (kept_claims kept.now) && is_plain (concept_of class.now)) }
-    ensures answer { IfOk result (λ a. Answer (kept_claims kept.now) names.now budget (concept_of class.now) a.yes a.unknown) }
+    ensures answer { IfOk result (λ a. Answer (kept_claims kept.now) names.now (IsCutOff budget) (concept_of class.now) a.yes a.unknown) }
     ensures kept_has_unknown { IfOk result
         (λ a. All (λ n. IsIn (kept_interp kept.now) (concept_of class.now) (element_of (kept_interp kept.now) n)) a.unknown) }
 {

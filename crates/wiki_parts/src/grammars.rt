@@ -5,8 +5,8 @@ ghost use Rattle.codeco_checked.specs.Sound.{is_labelled};
 ghost use Rattle.codeco_reader.specs.Texts.{IsTextOf};
 ghost use Rattle.lexicon.specs.Words.{with_terminals, reground_refusal};
 ghost use Rattle.wiki_parts.specs.Faults.{IsCause, IsFault};
-ghost use Rattle.wiki_parts.specs.Refusing.{FirstOf, IsNoGrammar, IsBare, fault_name, fault_place};
-ghost use Rattle.wiki_parts.specs.Words.{lexicon_refusal};
+ghost use Rattle.plain_wiki.specs.Causes.{FirstOf, is_no_grammar, is_bare, fault_name, fault_place};
+ghost use Rattle.plain_wiki.specs.Words.{lexicon_refusal};
 
 use crate::faults::Fault;
 use crate::told::told_text;
@@ -23,7 +23,7 @@ pub fn grammar_read(alloc: Global, text: &Text8) -> Result<CheckedGrammar, Fault
     ensures text { IfOk result (IsTextOf text.now) }
     ensures labelled { IfOk result (λ grammar. IsTrue (is_labelled grammar)) }
     ensures only { IfOk result (λ grammar. (other : GrammarParts) → IsTextOf text.now other → other ≡ grammar) }
-    ensures refused { IfErr result (IsFault (FirstOf (IsNoGrammar text.now ∷ IsBare text.now ∷ []))) }
+    ensures refused { IfErr result (IsFault (FirstOf (is_no_grammar text.now ∷ is_bare text.now ∷ []))) }
 {
     match read_grammar(alloc, text.as_str()) {
         Ok(grammar) => {

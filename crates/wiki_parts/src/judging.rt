@@ -7,7 +7,8 @@ ghost use Rattle.logic_terms.specs.Reading.{IsModel};
 ghost use Rattle.owl_eval.specs.Checked.{kept_interp, kept_claims};
 ghost use Rattle.reasoner.specs.Verdicts.{IfConsistent, IfSpent};
 ghost use Rattle.wiki_parts.specs.Judgements.{status_in};
-ghost use Rattle.wiki_parts.specs.Knowledge.{IsAllowed};
+ghost use Rattle.plain_wiki.specs.Knowledge.{IsAllowed};
+ghost use Rattle.wiki_parts.specs.Spending.{IsCutOff};
 
 use logic_terms::{Axioms, Names};
 use owl_eval::CheckedModel;
@@ -25,7 +26,7 @@ pub fn judged(
 ) -> Result<Verdict<CheckedModel>, Memory>
     requires over { IsTrue (are_over names.now (claims_of axioms)) }
     requires plain { IsTrue (are_plain (claims_of axioms)) }
-    ensures allowed { IfOk result (λ v. IsAllowed (claims_of axioms) names.now budget (status_in v)) }
+    ensures allowed { IfOk result (λ v. IsAllowed (claims_of axioms) names.now (IsCutOff budget) (status_in v)) }
     ensures taken { IfOk result (λ v. IfConsistent v (λ model. kept_claims model ≡ claims_of axioms)) }
     ensures spent { IfOk result (λ v. IfSpent v (λ _. IsModel (kept_interp kept.now) (claims_of axioms) → ⊥)) }
 {

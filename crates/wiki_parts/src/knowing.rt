@@ -2,7 +2,7 @@
 ghost use Rattle.std.specs.Prelude.{◌≡◌, ◌++◌, [], IfOk, OnOk, if◌then◌else◌};
 ghost use Rattle.logic_terms.specs.Shown.{claims_of};
 ghost use Rattle.wiki_parts.specs.Kept.{stated_by, known_of, known_in, known_around, meanings_in, IsAround};
-ghost use Rattle.wiki_parts.specs.Knowledge.{is_asserted};
+ghost use Rattle.plain_wiki.specs.Knowledge.{is_asserted};
 ghost use Rattle.wiki_parts.specs.Found.{meaning_shown};
 
 use crate::meanings::Sense;

@@ -4,7 +4,7 @@ ghost use Rattle.wiki_base.specs.declared.tokens.TheConstants.{MOST_TOKENS};
 ghost use Rattle.codeco_checked.specs.Sound.{is_labelled};
 ghost use Rattle.derivation_trees.specs.Sentences.{IsSentence};
 ghost use Rattle.lexicon.specs.Words.{Listed};
-ghost use Rattle.wiki_parts.specs.Meanings.{skeleton_meaning, Means, MeansFaithfully};
+ghost use Rattle.plain_wiki.specs.Meanings.{skeleton_meaning, Means, MeansFaithfully};
 ghost use Rattle.drs_build.specs.Built as built;
 ghost use Rattle.wiki_parts.specs.Found.{meaning_shown};
 

@@ -4,7 +4,7 @@ ghost use Rattle.lexicon.specs.Words.{canonical_form_of};
 ghost use Rattle.logic_terms.specs.Shown.{claims_of};
 ghost use Rattle.owl_text.specs.Texts.{claim_text};
 ghost use Rattle.wiki_parts.specs.Found.{meaning_shown};
-ghost use Rattle.wiki_parts.specs.Telling.{told_meaning};
+ghost use Rattle.plain_wiki.specs.Telling.{told_meaning};
 
 use crate::meanings::Sense;
 use lexicon::Lexicon;

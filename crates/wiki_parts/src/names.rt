@@ -1,6 +1,6 @@
 // The live words that are names.
 ghost use Rattle.std.specs.Prelude.{◌≡◌, IfOk};
-ghost use Rattle.wiki_parts.specs.Knowledge.{is_name, live_names};
+ghost use Rattle.plain_wiki.specs.Knowledge.{is_name, live_names};
 
 use lexicon::{Kind, Lexicon};
 use logic_terms::Names;

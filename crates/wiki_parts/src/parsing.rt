@@ -3,8 +3,8 @@ ghost use Rattle.std.specs.Prelude.{◌≡◌, ◌≤◌, length, IfOk};
 ghost use Rattle.wiki_base.specs.declared.tokens.TheConstants.{MOST_TOKENS};
 ghost use Rattle.derivation_trees.specs.Codes.{skeleton_code};
 ghost use Rattle.derivation_trees.specs.Sentences.{IsSentence};
-ghost use Rattle.wiki_parts.specs.Parsing.{of_group, told_menu, IsNoSentence};
-ghost use Rattle.wiki_parts.specs.Words.{full_at};
+ghost use Rattle.plain_wiki.specs.Parsing.{of_group, told_menu, IsNoSentence};
+ghost use Rattle.plain_wiki.specs.Words.{full_at};
 
 use crate::typing::{menu, typeable_count};
 use codeco_checked::CheckedGrammar;

@@ -1,6 +1,6 @@
 // Words as they are told.
 ghost use Rattle.std.specs.Prelude.{◌≡◌, IfOk, map};
-ghost use Rattle.wiki_parts.specs.Words.{told_word, told_words};
+ghost use Rattle.plain_wiki.specs.Words.{told_word, told_words};
 
 use lexicon::{Forms, Lexicon, Texts};
 use std::alloc::Global;

@@ -2,9 +2,9 @@
 ghost use Rattle.std.specs.Prelude.{◌≡◌, ◌≤◌, ◌==◌, ◌||◌, All, length, option_map, find};
 ghost use Rattle.std.specs.List.{list_any};
 ghost use Rattle.lexicon.specs.Words.{is_among};
-ghost use Rattle.wiki_parts.specs.Places.{placed_in, all_placed, told_place};
+ghost use Rattle.plain_wiki.specs.Places.{placed_in, all_placed, told_place};
 ghost use Rattle.wiki_talk.specs.declared.limits.TheConstants.{MOST_SENTENCES};
-ghost use Rattle.wiki_parts.specs.Refusing.{uses_word};
+ghost use Rattle.plain_wiki.specs.Causes.{uses_word};
 
 use articles::{Article, Sentence};
 use lexicon::Forms;

@@ -4,7 +4,7 @@ ghost use Rattle.lexicon.specs.Kinds.{IsComplete};
 ghost use Rattle.lexicon.specs.Suggest.{form_texts, told};
 ghost use Rattle.lexicon.specs.Words.{with_word, owner, add_refusal};
 ghost use Rattle.wiki_parts.specs.Faults.{IsCause};
-ghost use Rattle.wiki_parts.specs.Words.{bad_text, bad_count, lexicon_refusal, taken_refusal, full_refusal, word_refusal};
+ghost use Rattle.plain_wiki.specs.Words.{bad_text, bad_count, lexicon_refusal, taken_refusal, full_refusal, word_refusal};
 
 use crate::faults::Fault;
 use crate::told::told_text;

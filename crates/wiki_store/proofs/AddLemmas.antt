@@ -1,5 +1,5 @@
 -- What adding a word with its article asks, and what it leaves.
-use Rattle.std.proofs.Common.{◌≡◌, ℕ, suc, ◌+◌, ◌<◌, ◌≤◌, ◌==◌, Bool, true, false, not, cond, List, [], ◌∷◌, ◌++◌, find, get_or, All, Option, Some, None, Result, Ok, Err, IfOk, IfSome, refl, sym, ap, subst, ◌∙◌, arith, option_map, unwrap_or}
+use Rattle.std.proofs.Common.{◌≡◌, ℕ, suc, ◌+◌, ◌<◌, ◌≤◌, ◌==◌, Bool, true, false, not, cond, List, [], ◌∷◌, ◌++◌, find, get_or, All, Option, Some, None, IfSome, inl, refl, sym, ap, subst, ◌∙◌, arith, option_map, unwrap_or}
 use Rattle.std.specs.List.{slice_get}
 use Rattle.std.specs.Option.{IsSomeAnd, SomeIff}
 use Rattle.std.proofs.lemmas.Bool.{false≢true}
@@ -10,18 +10,18 @@ use Rattle.wiki_base.proofs.NumberLaws.{lt-eqb}
 use Rattle.lexicon.specs.declared.words.Word.{Word}
 use Rattle.lexicon.specs.declared.kinds.Kind.{Kind}
 use Rattle.lexicon.specs.Words.{IsLexicon}
-use Rattle.wiki_talk.specs.declared.refusals.Refusal.{Refusal}
-use Rattle.wiki_talk.specs.declared.replies.Reply.{Reply}
-use Rattle.wiki_talk.specs.declared.replies.Reply.TheVariants as replies
-use Rattle.wiki_talk.specs.declared.requests.Request.TheVariants as requests
+use Rattle.wiki_talk.specs.declared.requests.WikiRequest.TheVariants as of_wiki
 use Rattle.articles.specs.declared.article.Article.{Article}
 use Rattle.articles.specs.Articles.{is_of, new_article, without_article, IsEmptyArticle}
 use Rattle.wiki_parts.specs.declared.faults.Fault.{Fault}
-use Rattle.wiki_parts.specs.declared.faults.Fault.TheVariants.{Refused}
-use Rattle.wiki_parts.specs.Faults.{IsCause}
-use Rattle.wiki_parts.specs.State.{State, IsSound}
-use Rattle.wiki_store.specs.Step.{Step}
-use Rattle.wiki_parts.specs.Words.{word_refusal}
+use Rattle.wiki_parts.specs.declared.faults.Fault.TheVariants.{Refused, Memory}
+use Rattle.wiki_parts.specs.Faults.{IsCause, IsFault}
+use Rattle.wiki_parts.proofs.FirstLemmas.{none_stands, nothing_stands}
+use Rattle.plain_wiki.specs.State.{Stored}
+use Rattle.wiki_parts.specs.Sound.{IsSound}
+use Rattle.plain_wiki.specs.Against.{against_wiki}
+use Rattle.plain_wiki.specs.Causes.{FirstOf, NoneOf, is_bad_word}
+use Rattle.plain_wiki.specs.Words.{word_refusal}
 
 -- the word under a number that is there
 record Under (o : Option Word) (id : WordId) : Type 0 where
@@ -34,7 +34,7 @@ some-under None id is = absurd (none-some id is)
 some-under (Some w) id is = record { word = w; is = refl; number = ap (λ (o : Option WordId). unwrap_or o id) is }
 
 -- the number after the last one given is above those of all articles
-pub articles-below : (state : State) → IsSound state → IsLexicon state.words → All (λ article. article.word.0 < state.words.last + 1) state.articles
+pub articles-below : (state : Stored) → IsSound state → IsLexicon state.words → All (λ article. article.word.0 < state.words.last + 1) state.articles
 articles-below state sound lexicon k d within =
     let here = slice_get-get_or state.articles k d within in
     let numbered = ap (λ (ids : List WordId). slice_get ids k) (sym sound.articles) ∙ slice_get-map (λ (a : Article). a.word) state.articles k
@@ -86,17 +86,18 @@ new-taken-out word (article ∷ articles) below =
     by_test true is rest = absurd (false≢true (sym is))
     by_test false is rest = ap (λ (others : List Article). article ∷ others) rest
 
--- a refused word is a step that changes nothing
-pub refused-step : {E : Type 0} (result : Result Reply E) (fault : Fault) (old new : State) (kind : Kind) (texts : List (List ℕ))
-    → IfOk result (λ reply. (refusal : Refusal) × (fault ≡ Refused refusal) × (reply ≡ replies.Refused refusal))
-    → IsCause (word_refusal old.words kind texts) fault → new ≡ old
-    → IfOk result (λ reply. Step old (requests.Word kind texts) reply new)
-refused-step (Ok reply) fault old new kind texts told cause same =
-    subst (λ (r : Reply). Step old (requests.Word kind texts) r new) (sym told.2) (subst (IsCause (word_refusal old.words kind texts)) told.1 cause, same)
-refused-step (Err fault) other old new kind texts told cause same = tt
+-- nothing stands against a word that isn't refused, and a refused word is told
+pub word_free : (state : Stored) (kind : Kind) (texts : List (List ℕ)) → word_refusal state.words kind texts ≡ None
+    → NoneOf (against_wiki state (of_wiki.Word kind texts))
+word_free state kind texts none = none_stands (is_bad_word state kind texts) [] (λ refusal bad. none-some refusal (sym none ∙ bad)) nothing_stands
+
+pub word_told : (state : Stored) (kind : Kind) (texts : List (List ℕ)) (fault : Fault) → IsCause (word_refusal state.words kind texts) fault
+    → IsFault (FirstOf (against_wiki state (of_wiki.Word kind texts))) fault
+word_told state kind texts (Refused refusal) is = inl is
+word_told state kind texts Memory is = tt
 
 -- the number after the last one given, where there is one, is above those of all articles
-pub next-is : (state : State) → IsSound state → IsLexicon state.words → (last : ℕ) → last ≡ state.words.last → (o : Option ℕ)
+pub next-is : (state : Stored) → IsSound state → IsLexicon state.words → (last : ℕ) → last ≡ state.words.last → (o : Option ℕ)
     → SomeIff o (last + 1 < 4294967296) (last + 1)
     → IfSome o (λ next. (next ≡ state.words.last + 1) × All (λ article. article.word.0 < next) state.articles)
 next-is state sound lexicon last same None none = tt

@@ -15,7 +15,7 @@ use Rattle.articles.specs.Articles.{AreInOrder, HasPlace, HasSentence, article_o
 use Rattle.articles.specs.Places.{IsPlaceOf}
 use Rattle.articles.proofs.PlaceLemmas.{article_at, with_change-set}
 use Rattle.wiki_parts.specs.declared.meanings.Sense.{Sense}
-use Rattle.wiki_parts.specs.Knowledge.{is_asserted}
+use Rattle.plain_wiki.specs.Knowledge.{is_asserted}
 use Rattle.wiki_parts.specs.Found.{meaning_shown}
 use Rattle.wiki_parts.specs.Kept.{stated_by, meanings_in, known_of, known_in, known_around, senses_of, IsAround, MeanEach, MeanInEach}
 use Rattle.wiki_parts.proofs.KnownLemmas.{known_of-step}

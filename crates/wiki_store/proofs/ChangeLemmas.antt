@@ -24,11 +24,11 @@ use Rattle.articles.proofs.PlaceLemmas.{article_at, with_change-set}
 use Rattle.wiki_parts.specs.declared.meanings.Sense.{Sense}
 use Rattle.wiki_parts.specs.Holding.{FitsMeaning, Holding}
 use Rattle.wiki_parts.specs.Kept.{meanings_in, known_around, IsAround, MeanEach, MeanInEach, IsKeeping}
-use Rattle.wiki_parts.specs.Knowledge.{sentences_in}
-use Rattle.wiki_parts.specs.Meanings.{Meaning, stating, outside, asking, asking_outside, Means}
-use Rattle.wiki_parts.specs.Places.{word_named, sentence_named}
-use Rattle.wiki_parts.specs.Refusing.{may_retract}
-use Rattle.wiki_parts.specs.State.{State, IsSound}
+use Rattle.plain_wiki.specs.Knowledge.{sentences_in}
+use Rattle.plain_wiki.specs.Meanings.{Meaning, stating, outside, asking, asking_outside, Means}
+use Rattle.plain_wiki.specs.Causes.{may_retract}
+use Rattle.plain_wiki.specs.State.{Stored}
+use Rattle.wiki_parts.specs.Sound.{IsSound}
 use Rattle.wiki_store.proofs.KeepingLemmas.{all_parts, as_many_lists}
 use Rattle.wiki_store.proofs.AroundLemmas.{known_taken, known_retracted, mean_at, around_place, place-behind}
 
@@ -93,7 +93,7 @@ module _ (word : WordId) (change : List Sentence → List Sentence) where
       by_test false = omega arith
 
   -- the changed wiki is sound
-  pub sound-with_change : ((ss : List Sentence) → length (change ss) ≤ length ss) → (state : State) → IsSound state
+  pub sound-with_change : ((ss : List Sentence) → length (change ss) ≤ length ss) → (state : Stored) → IsSound state
       → IsSound (record state { articles = with_change state.articles word change })
   sound-with_change no_more state sound = record {
     labelled = sound.labelled;
@@ -216,7 +216,7 @@ retracted-fits (statuses.Outside cause) m may fits = absurd (false≢true may)
 retracted-fits statuses.Question m may fits = absurd (false≢true may)
 retracted-fits (statuses.QuestionOutside cause) m may fits = absurd (false≢true may)
 
-module _ (state : State) (senses : List (List Sense)) (model : CheckedModel) (keeping : IsKeeping state senses model) (ordered : AreInOrder state.articles)
+module _ (state : Stored) (senses : List (List Sense)) (model : CheckedModel) (keeping : IsKeeping state senses model) (ordered : AreInOrder state.articles)
     (word : WordId) (place at : ℕ) (is : IsPlaceOf state.articles word place) (around : IsAround state.articles senses place at (at + 1))
     (after : CheckedModel) (claims : kept_claims after ≡ known_around state.articles senses place at [] (at + 1)) where
   lists : length senses ≡ length state.articles
@@ -284,16 +284,17 @@ module _ (state : State) (senses : List (List Sense)) (model : CheckedModel) (ke
           (λ m fits. retracted-fits s.status m may fits)
 
 -- a sentence that may be retracted, by the word of its article
-pub may-there : (state : State) (form : List ℕ) (at : ℕ) (word : WordId) (s : Sentence) → word_named state form ≡ Some word
-    → sentence_named state form at ≡ Some s → may_retract s.status ≡ true
-    → IsSomeAnd (sentence_at state.articles word at) (λ sentence. may_retract sentence.status ≡ true)
-may-there state form at word s named here may =
-    let there : sentence_at state.articles word at ≡ Some s = sym (ap (option_and_then (λ (w : WordId). sentence_at state.articles w at)) named) ∙ here in
+pub may-there : (articles : List Article) (word : WordId) (article : Article) (at : ℕ) (s : Sentence) → article_of articles word ≡ Some article
+    → slice_get article.sentences at ≡ Some s → may_retract s.status ≡ true
+    → IsSomeAnd (sentence_at articles word at) (λ sentence. may_retract sentence.status ≡ true)
+may-there articles word article at s found here may =
+    let there : sentence_at articles word at ≡ Some s = ap (option_and_then (λ (a : Article). slice_get a.sentences at)) found ∙ here in
     subst (λ (o : Option Sentence). IsSomeAnd o (λ sentence. may_retract sentence.status ≡ true)) (sym there) may
 
 -- ---- a wiki as it is seen, whose parts are kept
 
-module _ (state : State) (interpretation : Interpretation) (wiki : Holding) (seen : record { state = state; interpretation = interpretation } ≡ wiki)
+module _ (state : Stored) (budget : ℕ) (interpretation : Interpretation) (wiki : Holding)
+    (seen : record { state = state; budget = budget; interpretation = interpretation } ≡ wiki)
     (senses : List (List Sense)) (model : CheckedModel)
     (keeping : IsKeeping state senses model) (ordered : AreInOrder state.articles) (word : WordId) (place : ℕ) (is : IsPlaceOf wiki.state.articles word place)
   where

@@ -22,12 +22,13 @@ use Rattle.articles.specs.declared.article.Article.{Article}
 use Rattle.wiki_parts.specs.declared.meanings.Sense.{Sense}
 use Rattle.wiki_parts.specs.Found.{meaning_shown}
 use Rattle.wiki_parts.specs.Kept.{MeanEach, meanings_in}
-use Rattle.wiki_parts.specs.Meanings.{Meaning, Means}
-use Rattle.wiki_parts.specs.Places.{Placed, placed_from, placed_in, all_placed, IsFirstPlaced}
-use Rattle.wiki_parts.specs.Refusing.{KeepsMeaning, TellsPlace}
-use Rattle.wiki_parts.specs.State.{State, IsSound}
+use Rattle.plain_wiki.specs.Meanings.{Meaning, Means}
+use Rattle.plain_wiki.specs.Places.{Placed, placed_from, placed_in, all_placed, IsFirstPlaced}
+use Rattle.plain_wiki.specs.Causes.{KeepsMeaning, breaks_sentence}
+use Rattle.plain_wiki.specs.State.{Stored}
+use Rattle.wiki_parts.specs.Sound.{IsSound}
 use Rattle.wiki_parts.proofs.MeaningLemmas.{means_one}
-use Rattle.wiki_store.specs.Rewording.{Finds, FindsPlace, PassesOthers, TellsBroken}
+use Rattle.wiki_store.specs.Rewording.{Finds, FindsPlace, PassesOthers, TellsPlace}
 use Rattle.wiki_store.specs.Sameness.{same_meaning}
 use Rattle.wiki_store.proofs.KeepingLemmas.{as_many}
 use Rattle.wiki_store.proofs.SameMeanings.{meaning_equal, meaning_self}
@@ -167,7 +168,7 @@ module _ (P : Placed → Type 0) where
       by (inr behind) rest = let r = rest behind in (suc r.0, r.1)
 
   -- the word of the article that a sentence is found in lives
-  pub found_lives : (state : State) → IsSound state → (found : Placed) → Finds P (all_placed state.articles) (Some found)
+  pub found_lives : (state : Stored) → IsSound state → (found : Placed) → Finds P (all_placed state.articles) (Some found)
       → IsSome (forms_of state.words.live found.word)
   found_lives state sound found h =
       let at = article_word state.articles found h in
@@ -198,7 +199,7 @@ module _ (P : Placed → Type 0) where
   no_place xs finds = record { found = None; told = refl; finds = finds }
 
   -- the word of the place that is told lives
-  pub place_lives : (state : State) → IsSound state → (place : Place) → FindsPlace P (all_placed state.articles) (Some place)
+  pub place_lives : (state : Stored) → IsSound state → (place : Place) → FindsPlace P (all_placed state.articles) (Some place)
       → IsSome (forms_of state.words.live place.article)
   place_lives state sound place f =
       let t = told-found f.found place f.told in
@@ -206,17 +207,18 @@ module _ (P : Placed → Type 0) where
       (found_lives state sound t.found (subst (Finds P (all_placed state.articles)) t.is f.finds))
 
 -- the sentence at the place that is told is the first one that is broken
-pub broken_place : (state : State) (other : GrammarParts) (new : Listed) (place : Place)
+pub broken_place : (state : Stored) (other : GrammarParts) (new : Listed) (place : Place)
     → FindsPlace (λ placed. KeepsMeaning state.grammar state.words other new placed.sentence.tokens) (all_placed state.articles) (Some place)
-    → (refusal : Refusal) → TellsPlace state (λ form place. Breaks form place) place.article place.at refusal → TellsBroken state other new refusal
+    → (refusal : Refusal) → TellsPlace state (λ form place. Breaks form place) place.article place.at refusal → breaks_sentence state other new refusal
 broken_place state other new place f refusal told =
     let t = told-found f.found place f.told in
-    record {
-      first = t.found;
-      breaks = finds_first (λ placed. KeepsMeaning state.grammar state.words other new placed.sentence.tokens) (all_placed state.articles) t.found
-          (subst (Finds (λ placed. KeepsMeaning state.grammar state.words other new placed.sentence.tokens) (all_placed state.articles)) t.is f.finds);
-      told = subst (λ (p : Place). TellsPlace state (λ form place. Breaks form place) p.article p.at refusal) (sym t.told) told;
-    }
+    let there : TellsPlace state (λ form place. Breaks form place) t.found.word t.found.place refusal =
+    subst (λ (p : Place). TellsPlace state (λ form place. Breaks form place) p.article p.at refusal) (sym t.told) told in (
+      t.found,
+      finds_first (λ placed. KeepsMeaning state.grammar state.words other new placed.sentence.tokens) (all_placed state.articles) t.found
+          (subst (Finds (λ placed. KeepsMeaning state.grammar state.words other new placed.sentence.tokens) (all_placed state.articles)) t.is f.finds),
+      (there.form, there.spelled, there.told),
+    )
 
 -- ---- whether a sentence keeps its meaning
 

@@ -16,8 +16,8 @@ use Rattle.wiki_talk.specs.declared.statuses.Status.TheVariants.{Asserted, RedBu
 use Rattle.articles.specs.declared.sentences.Sentence.{Sentence}
 use Rattle.articles.specs.declared.article.Article.{Article}
 use Rattle.wiki_parts.specs.declared.meanings.Sense.{Sense}
-use Rattle.wiki_parts.specs.Meanings.{Meaning, stating, outside, asking, asking_outside}
-use Rattle.wiki_parts.specs.State.{State}
+use Rattle.plain_wiki.specs.Meanings.{Meaning, stating, outside, asking, asking_outside}
+use Rattle.plain_wiki.specs.State.{Stored}
 use Rattle.wiki_parts.specs.Kept.{stated_by, meanings_in, known_of, known_in, known_around, IsAround, Stands, IsKeeping}
 use Rattle.wiki_store.specs.Settled.{IsTrueIn}
 use Rattle.wiki_store.proofs.AroundLemmas.{known_in-parts, known_around-is}
@@ -190,7 +190,7 @@ pub not-red : Asserted ≡ RedBudget → ⊥
 not-red red = cc
 
 -- what is kept beside a state may have another model of the same axioms
-pub keeps-claims : (state : State) (senses : List (List Sense)) (model after : CheckedModel) → IsKeeping state senses model
+pub keeps-claims : (state : Stored) (senses : List (List Sense)) (model after : CheckedModel) → IsKeeping state senses model
     → kept_claims after ≡ kept_claims model → IsKeeping state senses after
 keeps-claims state senses model after keeping same = record {
   sound = keeping.sound;

@@ -28,9 +28,11 @@ use Rattle.articles.specs.Articles.{AreInOrder, changed, with_change, with_statu
 use Rattle.articles.specs.Places.{IsPlaceOf}
 use Rattle.articles.proofs.PlaceLemmas.{with_change-set}
 use Rattle.wiki_parts.specs.declared.meanings.Sense.{Sense}
-use Rattle.wiki_parts.specs.State.{State, IsSound}
-use Rattle.wiki_parts.specs.Meanings.{Meaning, stating, outside, asking, asking_outside, Means}
-use Rattle.wiki_parts.specs.Knowledge.{is_asserted, sentences_in, Knows, live_names, IsStatusOf}
+use Rattle.plain_wiki.specs.State.{Stored}
+use Rattle.wiki_parts.specs.Sound.{IsSound}
+use Rattle.plain_wiki.specs.Meanings.{Meaning, stating, outside, asking, asking_outside, Means}
+use Rattle.plain_wiki.specs.Knowledge.{is_asserted, sentences_in, Knows, live_names, IsStatusOf}
+use Rattle.wiki_parts.specs.Spending.{IsCutOff}
 use Rattle.wiki_parts.specs.Holding.{FitsMeaning}
 use Rattle.wiki_parts.specs.Found.{meaning_shown}
 use Rattle.wiki_parts.specs.Kept.{stated_by, meanings_in, known_of, known_in, known_around, IsAround, MeanEach, MeanInEach, Stands, IsKeeping}
@@ -167,7 +169,7 @@ few-own articles place a b here few =
 -- ---- the state with the sentence
 
 -- a state with another article of the same word in place of one is sound
-sound-set : (state : State) (place : ℕ) (a b : Article) → IsSound state → slice_get state.articles place ≡ Some a → b.word ≡ a.word
+sound-set : (state : Stored) (place : ℕ) (a b : Article) → IsSound state → slice_get state.articles place ≡ Some a → b.word ≡ a.word
     → length b.sentences ≤ MOST_SENTENCES
     → IsSound (record state { articles = set state.articles place b })
 sound-set state place a b sound here word few = record {
@@ -179,7 +181,7 @@ sound-set state place a b sound here word few = record {
 }
 
 -- what is kept where a sentence comes into an article
-pub keeps-set : (state : State) (senses : List (List Sense)) (model : CheckedModel) (place from to : ℕ) (around : IsAround state.articles senses place from to)
+pub keeps-set : (state : Stored) (senses : List (List Sense)) (model : CheckedModel) (place from to : ℕ) (around : IsAround state.articles senses place from to)
     (b : Article) (s : Sentence) (m : Sense)
     (after : CheckedModel) → IsKeeping state senses model → b.word ≡ around.article.word → b.sentences ≡ spliced around.article.sentences from to s
     → Means state.grammar state.words s.tokens (meaning_shown m) → FitsMeaning s.status (meaning_shown m) → length s.tokens ≤ MOST_TOKENS
@@ -209,7 +211,7 @@ change-is articles senses word place from to ordered is around change =
     ∙ ap (λ (b : Article). set articles place (changed change b)) (get_or_from_slice_get articles place around.article around.article around.here)
 
 -- what is kept where a word's article changes so that a sentence comes into it
-pub keeps-changed : (state : State) (senses : List (List Sense)) (model : CheckedModel) (word : WordId) (place from to : ℕ) → AreInOrder state.articles
+pub keeps-changed : (state : Stored) (senses : List (List Sense)) (model : CheckedModel) (word : WordId) (place from to : ℕ) → AreInOrder state.articles
     → IsPlaceOf state.articles word place
     → (around : IsAround state.articles senses place from to) (change : List Sentence → List Sentence) (s : Sentence) (m : Sense) (after : CheckedModel)
     → IsKeeping state senses model
@@ -282,7 +284,7 @@ fits-standing claims names budget (asking concept) status stands = subst (λ (st
 fits-standing claims names budget (asking_outside cause) status stands = subst (λ (st : Status). FitsMeaning st (asking_outside cause)) (sym stands) refl
 
 -- The sentence of these tokens comes into an article with any status.
-module _ (state : State) (senses : List (List Sense)) (place from to : ℕ) (around : IsAround state.articles senses place from to) (tokens : List (List ℕ))
+module _ (state : Stored) (senses : List (List Sense)) (place from to : ℕ) (around : IsAround state.articles senses place from to) (tokens : List (List ℕ))
     (m : Sense)
     (mean : MeanInEach state.grammar state.words state.articles senses) (means : Means state.grammar state.words tokens (meaning_shown m)) where
   -- all axioms, its own among them
@@ -348,17 +350,17 @@ module _ (state : State) (senses : List (List Sense)) (place from to : ℕ) (aro
         (mean-spliced state.grammar state.words state.articles senses place from to around b s m mean is means fits)))
 
     -- the status that it gets is one that it may have in that wiki
-    pub status_taken : (status : Status)
-        → Stands (known_around state.articles senses place from (stated_by (meaning_shown m)) to) (live_names state.words) state.budget (meaning_shown m) status
-        → IsStatusOf (record state { articles = with_change state.articles word change }) (meaning_shown m) status
-    status_taken status stands = by_meaning (meaning_shown m) status stands taken_knows
+    pub status_taken : (budget : ℕ) (status : Status)
+        → Stands (known_around state.articles senses place from (stated_by (meaning_shown m)) to) (live_names state.words) budget (meaning_shown m) status
+        → IsStatusOf (IsCutOff budget) (record state { articles = with_change state.articles word change }) (meaning_shown m) status
+    status_taken budget status stands = by_meaning (meaning_shown m) status stands taken_knows
       where
         by_meaning : (meaning : Meaning) (st : Status)
-            → Stands (known_around state.articles senses place from (stated_by meaning) to) (live_names state.words) state.budget meaning st
+            → Stands (known_around state.articles senses place from (stated_by meaning) to) (live_names state.words) budget meaning st
             → (FitsMeaning Asserted meaning
             → Knows (record state { articles = with_change state.articles word change })
             (known_around state.articles senses place from (stated_by meaning) to))
-            → IsStatusOf (record state { articles = with_change state.articles word change }) meaning st
+            → IsStatusOf (IsCutOff budget) (record state { articles = with_change state.articles word change }) meaning st
         by_meaning (stating []) st stood knows = stood
         by_meaning (stating (claim ∷ own)) st stood knows =
             record { claims = known_around state.articles senses place from (claim ∷ own) to; known = knows tt; allowed = stood }
@@ -367,16 +369,16 @@ module _ (state : State) (senses : List (List Sense)) (place from to : ℕ) (aro
         by_meaning (asking_outside cause) st stood knows = stood
 
     -- where it is red for the budget, the interpretation that is no model of all axioms is none of what that wiki knows
-    pub spends_taken : (i : Interpretation) (status : Status)
-        → Stands (known_around state.articles senses place from (stated_by (meaning_shown m)) to) (live_names state.words) state.budget (meaning_shown m) status
+    pub spends_taken : (budget : ℕ) (i : Interpretation) (status : Status)
+        → Stands (known_around state.articles senses place from (stated_by (meaning_shown m)) to) (live_names state.words) budget (meaning_shown m) status
         → status ≡ RedBudget → (IsModel i (known_around state.articles senses place from (stated_by (meaning_shown m)) to) → ⊥)
         → (claims : List Claim) → Knows (record state { articles = with_change state.articles word change }) claims → ¬ IsModel i claims
-    spends_taken i status stands red beyond claims knows model =
+    spends_taken budget i status stands red beyond claims knows model =
         let red_fits : FitsMeaning RedBudget (meaning_shown m) =
         subst (λ (st : Status). FitsMeaning st (meaning_shown m)) red
-        (fits-standing (known_around state.articles senses place from (stated_by (meaning_shown m)) to) (live_names state.words) state.budget (meaning_shown m)
+        (fits-standing (known_around state.articles senses place from (stated_by (meaning_shown m)) to) (live_names state.words) budget (meaning_shown m)
         status stands) in
-        let taken : State = record state { articles = with_change state.articles word change } in
+        let taken : Stored = record state { articles = with_change state.articles word change } in
         beyond (subst (IsModel i) (knows_one taken claims (known_around state.articles senses place from (stated_by (meaning_shown m)) to) knows
         (taken_knows (by_meaning (meaning_shown m) red_fits))) model)
       where

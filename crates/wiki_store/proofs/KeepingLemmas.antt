@@ -1,7 +1,7 @@
 -- What is kept beside the state: as many meanings as sentences, and a model of what is known.
 use Rattle.std.proofs.Common.{◌≡◌, ℕ, ◌≤◌, Bool, true, false, cond, List, [], ◌∷◌, ◌++◌, length, All, Option, Some, None, unwrap_or, refl, sym, ap, subst, arith}
 use Rattle.std.specs.List.{slice_get}
-use Rattle.std.specs.Option.{option_and_then}
+use Rattle.std.proofs.lemmas.Bool.{eqb-true}
 use Rattle.std.proofs.lemmas.List.Elements.{All-nil, All-cons, All-head, All-tail, All-append}
 use Rattle.std.proofs.lemmas.Option.{none-some, slice_get_within, get_or_from_slice_get}
 use Rattle.wiki_base.specs.declared.numbers.WordId.{WordId}
@@ -17,10 +17,9 @@ use Rattle.articles.specs.declared.sentences.Sentence.{Sentence}
 use Rattle.articles.specs.declared.article.Article.{Article}
 use Rattle.articles.specs.Articles.{AreInOrder, is_of, article_of}
 use Rattle.wiki_parts.specs.declared.meanings.Sense.{Sense}
-use Rattle.wiki_parts.specs.State.{State}
-use Rattle.wiki_parts.specs.Meanings.{Meaning, MeansFaithfully}
-use Rattle.wiki_parts.specs.Places.{word_named, article_named}
-use Rattle.wiki_parts.specs.Knowledge.{sentences_in, Knows}
+use Rattle.plain_wiki.specs.State.{Stored}
+use Rattle.plain_wiki.specs.Meanings.{Meaning, MeansFaithfully}
+use Rattle.plain_wiki.specs.Knowledge.{sentences_in, Knows}
 use Rattle.wiki_parts.specs.Holding.{IsStored, IsKept}
 use Rattle.wiki_parts.specs.Kept.{meanings_in, MeanEach, MeanInEach, IsKeeping}
 use Rattle.wiki_parts.proofs.KnownLemmas.{knows_from_known}
@@ -46,7 +45,7 @@ all_parts P [] ys all = (All-nil P, all)
 all_parts P (x ∷ xs) ys all = let rest = all_parts P xs ys (All-tail P x (xs ++ ys) all) in (All-cons P x xs (All-head P x (xs ++ ys) all) rest.0, rest.1)
 
 -- sentences that have their meanings are stored rightly, where they are short and whatever is meant keeps its truth
-pub stored_each : (state : State) (sentences : List Sentence) (meanings : List Meaning)
+pub stored_each : (state : Stored) (sentences : List Sentence) (meanings : List Meaning)
     → ((tokens : List (List ℕ)) → MeansFaithfully state.grammar state.words tokens) → MeanEach state.grammar state.words sentences meanings
     → All (λ sentence. length sentence.tokens ≤ MOST_TOKENS) sentences → All (IsStored state) sentences
 stored_each state [] [] faithful mean short = All-nil (IsStored state)
@@ -63,7 +62,7 @@ stored_each state (s ∷ ss) (m ∷ ms) faithful mean short =
     })
     (stored_each state ss ms faithful mean.1 (All-tail (λ (t : Sentence). length t.tokens ≤ MOST_TOKENS) s ss short))
 
-pub stored_in : (state : State) (articles : List Article) (senses : List (List Sense))
+pub stored_in : (state : Stored) (articles : List Article) (senses : List (List Sense))
     → ((tokens : List (List ℕ)) → MeansFaithfully state.grammar state.words tokens) → MeanInEach state.grammar state.words articles senses
     → All (λ sentence. length sentence.tokens ≤ MOST_TOKENS) (sentences_in articles) → All (IsStored state) (sentences_in articles)
 stored_in state [] [] faithful mean short = All-nil (IsStored state)
@@ -76,11 +75,11 @@ stored_in state (a ∷ articles) (own ∷ senses) faithful mean short =
     (stored_in state articles senses faithful mean.1 (all_parts (λ (t : Sentence). length t.tokens ≤ MOST_TOKENS) a.sentences (sentences_in articles) short).1)
 
 -- a wiki with what is kept beside its state keeps what it should
-pub is_kept : (state : State) (senses : List (List Sense)) (model : CheckedModel)
+pub is_kept : (state : Stored) (budget : ℕ) (senses : List (List Sense)) (model : CheckedModel)
     → ((tokens : List (List ℕ)) → MeansFaithfully state.grammar state.words tokens) → IsKeeping state senses model → AreInOrder state.articles
     → IsFiniteModel (kept_interp model) (kept_claims model)
-    → IsKept (record { state = state; interpretation = kept_interp model })
-is_kept state senses model faithful keeping ordered finite = record {
+    → IsKept (record { state = state; budget = budget; interpretation = kept_interp model })
+is_kept state budget senses model faithful keeping ordered finite = record {
   sound = keeping.sound;
   in_order = ordered;
   stored = stored_in state state.articles senses faithful keeping.mean keeping.short;
@@ -117,20 +116,28 @@ each_there P (a ∷ articles) word article is all =
         (all_parts P a.sentences (sentences_in articles) all).0
     by_test false behind there = behind there
 
--- the sentence at a place of the article that a text names is stored rightly
-pub stored_there : (state : State) (senses : List (List Sense)) (model : CheckedModel)
-    → ((tokens : List (List ℕ)) → MeansFaithfully state.grammar state.words tokens) → IsKeeping state senses model → (text : List ℕ) (article : Article)
-    → article_named state text ≡ Some article → (at : ℕ) (sentence : Sentence) → slice_get article.sentences at ≡ Some sentence → IsStored state sentence
-stored_there state senses model faithful keeping text article named at sentence here =
-    by_word (word_named state text) named
+-- the sentence at a place of a word's article is stored rightly
+pub stored_there : (state : Stored) (senses : List (List Sense)) (model : CheckedModel)
+    → ((tokens : List (List ℕ)) → MeansFaithfully state.grammar state.words tokens) → IsKeeping state senses model → (word : WordId) (article : Article)
+    → article_of state.articles word ≡ Some article → (at : ℕ) (sentence : Sentence) → slice_get article.sentences at ≡ Some sentence
+    → IsStored state sentence
+stored_there state senses model faithful keeping word article found at sentence here =
+    let all = each_there (IsStored state) state.articles word article found (stored_in state state.articles senses faithful keeping.mean keeping.short) in
+    subst (IsStored state) (get_or_from_slice_get article.sentences at sentence sentence here)
+    (all at sentence (slice_get_within article.sentences at sentence here))
+
+-- the article of a word has its number
+pub article-word : (articles : List Article) (word : WordId) (article : Article) → article_of articles word ≡ Some article → article.word ≡ word
+article-word [] word article is = absurd (none-some article is)
+article-word (a ∷ articles) word article is = by_test (is_of word a) refl (article-word articles word article) is
   where
-    by_word : (o : Option WordId) → option_and_then (article_of state.articles) o ≡ Some article → IsStored state sentence
-    by_word None is = absurd (none-some article is)
-    by_word (Some word) is =
-        let all = each_there (IsStored state) state.articles word article is (stored_in state state.articles senses faithful keeping.mean keeping.short) in
-        subst (IsStored state) (get_or_from_slice_get article.sentences at sentence sentence here)
-        (all at sentence (slice_get_within article.sentences at sentence here))
+    by_test : (b : Bool) → is_of word a ≡ b → (article_of articles word ≡ Some article → article.word ≡ word)
+        → cond b (Some a) (article_of articles word) ≡ Some article → article.word ≡ word
+    by_test true same rest here =
+        subst (λ (c : Article). c.word ≡ word) (ap (λ (o : Option Article). unwrap_or o a) here)
+        (ap (λ n. let id : WordId = record { 0 = n } in id) (eqb-true a.word.0 word.0 same))
+    by_test false same rest there = rest there
 
 -- a stored sentence has a derivation
-pub has_derivation : (state : State) (sentence : Sentence) → IsStored state sentence → IsSentence state.grammar state.words sentence.tokens
+pub has_derivation : (state : Stored) (sentence : Sentence) → IsStored state sentence → IsSentence state.grammar state.words sentence.tokens
 has_derivation state sentence stored = let least = stored.means.is_least in (least.tree, least.derives)

@@ -16,6 +16,5 @@ pub mod RememberedLemmas
 pub mod RewordLemmas
 pub mod SameMeanings
 pub mod StepLemmas
-pub mod ToldLemmas
 pub mod UnwordLemmas
 pub mod WordKeeping

@@ -23,7 +23,7 @@ use Rattle.derivation_trees.specs.Trees.{Node}
 use Rattle.derivation_trees.specs.Derives.{IsDerivation}
 use Rattle.derivation_trees.specs.Sentences.{setting_of}
 use Rattle.derivation_trees.specs.Skeletons.{IsLeast}
-use Rattle.wiki_parts.specs.Meanings.{Meaning, Means}
+use Rattle.plain_wiki.specs.Meanings.{Meaning, Means}
 use Rattle.wiki_store.proofs.PassedLemmas.{IsPassed, derivation_passes}
 
 -- the token is a terminal, or a form of a live word

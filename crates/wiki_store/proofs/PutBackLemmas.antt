@@ -21,8 +21,8 @@ use Rattle.articles.proofs.BareLaws.{Bare, bare, bare-restored}
 use Rattle.history.specs.declared.kept.Kept.{Kept}
 use Rattle.wiki_parts.specs.declared.meanings.Sense.{Sense}
 use Rattle.wiki_parts.specs.Kept.{meanings_in, known_of, known_in, MeanEach, MeanInEach, IsKeeping}
-use Rattle.wiki_parts.specs.Knowledge.{sentences_in, AreStated, Knows}
-use Rattle.wiki_parts.specs.State.{State}
+use Rattle.plain_wiki.specs.Knowledge.{sentences_in, AreStated, Knows}
+use Rattle.plain_wiki.specs.State.{Stored}
 use Rattle.wiki_parts.proofs.KnownLemmas.{knows_from_known}
 use Rattle.wiki_parts.proofs.MeaningLemmas.{knows_one}
 use Rattle.wiki_store.specs.PuttingBack.{with_sentences, CanBePut, IsOfArticle}
@@ -46,7 +46,7 @@ pub sentences-same : (one other : List Article) → bare other ≡ bare one → 
 sentences-same one other same =
     sentences-bare other ∙ ap (λ (bs : List Bare). flat_map (λ (b : Bare). b.1) bs) same ∙ sym (sentences-bare one)
 
-module _ (state : State) (senses : List (List Sense)) (model : CheckedModel) (keeping : IsKeeping state senses model) (ordered : AreInOrder state.articles)
+module _ (state : Stored) (senses : List (List Sense)) (model : CheckedModel) (keeping : IsKeeping state senses model) (ordered : AreInOrder state.articles)
   where
     -- the articles where it was put back, each with what its sentences mean
     module _ (kept : Kept) (can : CanBePut state kept) (place : ℕ) (is : IsPlaceOf state.articles kept.article place) where
@@ -107,7 +107,7 @@ module _ (state : State) (senses : List (List Sense)) (model : CheckedModel) (ke
         change : List Sentence → List Sentence
         change _ = kept.sentences
 
-        after : State
+        after : Stored
         after = with_sentences state kept.article kept.sentences
 
         articles : List Article
@@ -137,14 +137,14 @@ module _ (state : State) (senses : List (List Sense)) (model : CheckedModel) (ke
         all = sentences-same state.articles articles (bare-restored state.articles ordered word article found)
 
 -- what an article has is what is kept of it, copied
-pub of_article : (state : State) (senses : List (List Sense)) (model : CheckedModel) → IsKeeping state senses model → AreInOrder state.articles
+pub of_article : (state : Stored) (budget : ℕ) (senses : List (List Sense)) (model : CheckedModel) → IsKeeping state senses model → AreInOrder state.articles
     → (word : WordId) (sentences : List Sentence) (own : List Sense) (interp : Interpretation)
     → option_map (λ (a : Article). a.sentences) (article_of state.articles word) ≡ Some sentences
     → ((a : Article) → article_of state.articles word ≡ Some a → MeanEach state.grammar state.words a.sentences (meanings_in own))
     → interp ≡ kept_interp model → IsModel interp (kept_claims model)
-    → IsOfArticle (record { state = state; interpretation = kept_interp model }) word
+    → IsOfArticle (record { state = state; budget = budget; interpretation = kept_interp model }) word
     (record { article = word; sentences = sentences; senses = own; interp = interp })
-of_article state senses model keeping ordered word sentences own interp there mean interpretation holds = record {
+of_article state budget senses model keeping ordered word sentences own interp there mean interpretation holds = record {
   article = refl;
   sentences = there;
   interpretation = interpretation;

@@ -27,15 +27,15 @@ use Rattle.articles.specs.Articles.{AreInOrder, HasPlace, is_of, article_of, cha
 use Rattle.articles.specs.Places.{IsPlaceOf}
 use Rattle.articles.proofs.PlaceLemmas.{with_change-set}
 use Rattle.wiki_parts.specs.declared.meanings.Sense.{Sense}
-use Rattle.wiki_parts.specs.State.{State}
-use Rattle.wiki_parts.specs.Knowledge.{is_asserted, sentences_in, live_names}
+use Rattle.plain_wiki.specs.State.{Stored}
+use Rattle.plain_wiki.specs.Knowledge.{is_asserted, sentences_in, live_names}
 use Rattle.wiki_parts.specs.Holding.{Holding}
 use Rattle.wiki_parts.specs.Found.{meaning_shown}
 use Rattle.wiki_parts.specs.Kept.{stated_by, known_in, known_around, IsAround, Stands, IsKeeping}
 use Rattle.wiki_store.specs.declared.putting.Change.{Change}
 use Rattle.wiki_store.specs.Putting.{spliced, with_put, with_made, CanBeMade, IsMade}
 use Rattle.wiki_store.specs.Settled.{IsTrueIn}
-use Rattle.wiki_store.specs.Step.{with_inserted, with_replaced, with_marked}
+use Rattle.plain_wiki.specs.Doing.{with_inserted, with_replaced, with_marked}
 use Rattle.wiki_store.proofs.AroundLemmas.{set_parts, around_place}
 use Rattle.wiki_store.proofs.InsideLemmas.{moved}
 use Rattle.wiki_store.proofs.JoiningLemmas.{settled-stands, keeps-claims}
@@ -86,13 +86,13 @@ replaced-spliced articles ordered word from to s one there =
     by_article (Some a) within = set-spliced a.sentences from to s one within
 
 -- a sentence that replaces none is inserted
-pub made-inserted : (old : State) (change : Change) (status : Status) → change.to ≡ change.from
+pub made-inserted : (old : Stored) (change : Change) (status : Status) → change.to ≡ change.from
     → with_made old change status ≡ with_inserted old change.word change.from (record { tokens = change.tokens; status = status })
 made-inserted old change status none =
     ap (λ (n : ℕ). with_put old change.word change.from n (record { tokens = change.tokens; status = status })) none
 
 -- in place of one it is put at its place
-pub made-replaced : (old : State) → AreInOrder old.articles → (change : Change) (status : Status) → change.to ≡ change.from + 1
+pub made-replaced : (old : Stored) → AreInOrder old.articles → (change : Change) (status : Status) → change.to ≡ change.from + 1
     → HasPlace old.articles change.word change.to
     → with_made old change status ≡ with_replaced old change.word change.from (record { tokens = change.tokens; status = status })
 made-replaced old ordered change status one there =
@@ -100,7 +100,7 @@ made-replaced old ordered change status one there =
     (sym (replaced-spliced old.articles ordered change.word change.from change.to (record { tokens = change.tokens; status = status }) one there))
 
 -- in place of itself it gets another status
-pub made-marked : (old : State) → AreInOrder old.articles → (change : Change) (status : Status) (at : ℕ) (sentence : Sentence) → change.from ≡ at
+pub made-marked : (old : Stored) → AreInOrder old.articles → (change : Change) (status : Status) (at : ℕ) (sentence : Sentence) → change.from ≡ at
     → change.to ≡ at + 1 → sentence_at old.articles change.word at ≡ Some sentence → change.tokens ≡ sentence.tokens
     → with_made old change status ≡ with_marked old change.word at status
 made-marked old ordered change status at sentence from_is to_is here same =
@@ -123,7 +123,7 @@ made-marked old ordered change status at sentence from_is to_is here same =
 -- ---- what the program holds
 
 -- What the program holds where a change is made: a state, with what is kept beside it and slices of it, and where the article stands.
-pub record Making (state : State) (senses : List (List Sense)) (model : CheckedModel) (change : Change) (articles : List Article)
+pub record Making (state : Stored) (budget : ℕ) (senses : List (List Sense)) (model : CheckedModel) (change : Change) (articles : List Article)
     (slice : List (List Sense)) (place : ℕ) : Type 0 where
   pub keeping : IsKeeping state senses model
   pub can : CanBeMade state change
@@ -133,11 +133,11 @@ pub record Making (state : State) (senses : List (List Sense)) (model : CheckedM
   pub is : IsPlaceOf state.articles change.word place
 
 -- it holds that of the wiki that is seen
-pub making : {state : State} {senses : List (List Sense)} {model : CheckedModel} {now : Holding} {change : Change} {articles : List Article}
+pub making : {state : Stored} {budget : ℕ} {senses : List (List Sense)} {model : CheckedModel} {now : Holding} {change : Change} {articles : List Article}
     {slice : List (List Sense)} {place : ℕ}
-    → record { state = state; interpretation = kept_interp model } ≡ now → IsKeeping state senses model → CanBeMade now.state change
+    → record { state = state; budget = budget; interpretation = kept_interp model } ≡ now → IsKeeping state senses model → CanBeMade now.state change
     → AreInOrder state.articles → articles ≡ state.articles → slice ≡ senses → IsPlaceOf now.state.articles change.word place
-    → Making state senses model change articles slice place
+    → Making state budget senses model change articles slice place
 making {change = change} {place = place} view keeping can ordered same_articles same_senses is = record {
   keeping = keeping;
   can = subst (λ (h : Holding). CanBeMade h.state change) (sym view) can;
@@ -147,8 +147,8 @@ making {change = change} {place = place} view keeping can ordered same_articles 
   is = subst (λ (h : Holding). IsPlaceOf h.state.articles change.word place) (sym view) is;
 }
 
-module _ {state : State} {senses : List (List Sense)} {model : CheckedModel} {change : Change} {articles : List Article} {slice : List (List Sense)}
-    {place : ℕ} (m : Making state senses model change articles slice place) where
+module _ {state : Stored} {budget : ℕ} {senses : List (List Sense)} {model : CheckedModel} {change : Change} {articles : List Article}
+    {slice : List (List Sense)} {place : ℕ} (m : Making state budget senses model change articles slice place) where
   -- a fact of what is kept is one of the slices
   sliced : (P : List Article → List (List Sense) → Type 0) → P state.articles senses → P articles slice
   sliced P here =
@@ -176,7 +176,7 @@ module _ {state : State} {senses : List (List Sense)} {model : CheckedModel} {ch
       subst (λ (o : Option (List Sense)). IsSomeAnd o (λ kept. change.to ≤ length kept)) (sym around.meant) fits
 
   -- the conditions of a verdict, by what is so of the wiki that is seen
-  pub over_there : {now : Holding} → record { state = state; interpretation = kept_interp model } ≡ now → IsSoundGrammar now.state.grammar
+  pub over_there : {now : Holding} → record { state = state; budget = budget; interpretation = kept_interp model } ≡ now → IsSoundGrammar now.state.grammar
       → AllPairs SharesNoForm now.state.words.live
       → IsTrue (are_over (live_names state.words) (known_around articles slice place change.from (stated_by (meaning_shown change.sense)) change.to))
   over_there view sound apart =
@@ -185,7 +185,7 @@ module _ {state : State} {senses : List (List Sense)} {model : CheckedModel} {ch
       (subst (λ (h : Holding). IsSoundGrammar h.state.grammar) (sym view) sound)
       (subst (λ (h : Holding). AllPairs SharesNoForm h.state.words.live) (sym view) apart))
 
-  pub plain_there : {now : Holding} → record { state = state; interpretation = kept_interp model } ≡ now → IsSoundGrammar now.state.grammar
+  pub plain_there : {now : Holding} → record { state = state; budget = budget; interpretation = kept_interp model } ≡ now → IsSoundGrammar now.state.grammar
       → AllPairs SharesNoForm now.state.words.live
       → IsTrue (are_plain (known_around articles slice place change.from (stated_by (meaning_shown change.sense)) change.to))
   plain_there view sound apart =
@@ -198,11 +198,11 @@ module _ {state : State} {senses : List (List Sense)} {model : CheckedModel} {ch
   pub settled-there : (i : Interpretation) (after : CheckedModel) → IsTrueIn i (meaning_shown change.sense)
       → kept_claims after ≡ known_around articles slice place change.from (stated_by (meaning_shown change.sense)) change.to
       → IsFiniteModel (kept_interp after) (kept_claims after)
-      → Stands (known_around articles slice place change.from (stated_by (meaning_shown change.sense)) change.to) (live_names state.words) state.budget
+      → Stands (known_around articles slice place change.from (stated_by (meaning_shown change.sense)) change.to) (live_names state.words) budget
       (meaning_shown change.sense) Asserted
   settled-there i after true_there claims finite =
       settled-stands i (kept_interp after) (known_around articles slice place change.from (stated_by (meaning_shown change.sense)) change.to)
-      (live_names state.words) state.budget (meaning_shown change.sense) true_there
+      (live_names state.words) budget (meaning_shown change.sense) true_there
       (subst (λ (cs : List Claim). IsFiniteModel (kept_interp after) cs) claims finite)
 
   -- what is kept stays where all is as it was but for the model, which has the same axioms
@@ -213,14 +213,14 @@ module _ {state : State} {senses : List (List Sense)} {model : CheckedModel} {ch
       (sym senses_stay) (keeps-claims state senses model after m.keeping same)
 
   module _ (status : Status) (stands : Stands (known_around articles slice place change.from (stated_by (meaning_shown change.sense)) change.to)
-      (live_names state.words) state.budget (meaning_shown change.sense) status) where
+      (live_names state.words) budget (meaning_shown change.sense) status) where
     put : Status → List Sentence → List Sentence
     put st ss = spliced ss change.from change.to (record { tokens = change.tokens; status = st })
 
     stood : Stands (known_around state.articles senses place change.from (stated_by (meaning_shown change.sense)) change.to) (live_names state.words)
-        state.budget (meaning_shown change.sense) status
+        budget (meaning_shown change.sense) status
     stood =
-        whole (λ xs ms. Stands (known_around xs ms place change.from (stated_by (meaning_shown change.sense)) change.to) (live_names state.words) state.budget
+        whole (λ xs ms. Stands (known_around xs ms place change.from (stated_by (meaning_shown change.sense)) change.to) (live_names state.words) budget
         (meaning_shown change.sense) status) stands
 
     -- there are so many sentences at most
@@ -249,7 +249,7 @@ module _ {state : State} {senses : List (List Sense)} {model : CheckedModel} {ch
         (keeps-changed state senses model change.word place change.from change.to m.ordered m.is around (put status)
         (record { tokens = change.tokens; status = status }) change.sense after m.keeping refl m.can.means
         (fits-standing (known_around state.articles senses place change.from (stated_by (meaning_shown change.sense)) change.to) (live_names state.words)
-        state.budget (meaning_shown change.sense) status stood) m.can.few room
+        budget (meaning_shown change.sense) status stood) m.can.few room
         (whole (λ xs ms. kept_claims after ≡ known_around xs ms place change.from (cond (is_asserted status) (stated_by (meaning_shown change.sense)) [])
         change.to) claims)))
 
@@ -258,8 +258,8 @@ module _ {state : State} {senses : List (List Sense)} {model : CheckedModel} {ch
         → after_articles ≡ with_change state.articles change.word
         (λ ss. spliced ss change.from change.to (record { tokens = change.tokens; status = status }))
         → (status ≡ RedBudget → IsModel before (known_around articles slice place change.from (stated_by (meaning_shown change.sense)) change.to) → ⊥)
-        → IsMade (record { state = state; interpretation = before }) change status
-        (record { state = record state { articles = after_articles }; interpretation = after })
+        → IsMade (record { state = state; budget = budget; interpretation = before }) change status
+        (record { state = record state { articles = after_articles }; budget = budget; interpretation = after })
     unfolding put
     is-made after_articles before after articles_are beyond = record {
       gets = record {
@@ -267,12 +267,13 @@ module _ {state : State} {senses : List (List Sense)} {model : CheckedModel} {ch
         means = m.can.means;
         fits =
             status_taken state senses place change.from change.to around change.tokens change.sense m.keeping.mean m.can.means change.word m.ordered m.is
-            (put Asserted) refl status stood;
+            (put Asserted) refl budget status stood;
       };
       after = ap (λ (xs : List Article). record state { articles = xs }) articles_are;
+      budget = refl;
       spent = λ red.
           spends_taken state senses place change.from change.to around change.tokens change.sense m.keeping.mean m.can.means change.word m.ordered m.is
-          (put Asserted) refl before status stood red
+          (put Asserted) refl budget before status stood red
           (whole (λ xs ms. IsModel before (known_around xs ms place change.from (stated_by (meaning_shown change.sense)) change.to) → ⊥) (beyond red));
     }
 

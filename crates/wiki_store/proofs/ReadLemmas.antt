@@ -22,10 +22,11 @@ use Rattle.articles.proofs.PlaceLemmas.{article_at}
 use Rattle.wiki_parts.specs.declared.meanings.Sense.{Sense}
 use Rattle.wiki_parts.specs.declared.meanings.Sense.TheVariants as senses
 use Rattle.wiki_parts.specs.Found.{meaning_shown}
+use Rattle.wiki_parts.specs.Spending.{IsCutOff}
 use Rattle.wiki_parts.specs.Holding.{Holding, FitsMeaning}
-use Rattle.wiki_parts.specs.Knowledge.{Knows, live_names, Answer}
+use Rattle.plain_wiki.specs.Knowledge.{Knows, live_names, Answer}
 use Rattle.wiki_parts.specs.Kept.{meanings_in, MeanEach, MeanInEach}
-use Rattle.wiki_parts.specs.Meanings.{Means}
+use Rattle.plain_wiki.specs.Meanings.{Means}
 use Rattle.wiki_store.specs.Remembered.{AreAnswers}
 use Rattle.wiki_store.proofs.AroundLemmas.{mean_at, item}
 
@@ -83,7 +84,7 @@ told-more R ss views k s view so_far within here holds =
 -- what answers a class by the kept model answers it in the wiki
 pub are-answers : {E : Type 0} (inside wiki : Holding) → inside ≡ wiki → (claims : List Claim) → Knows inside.state claims → (names : List WordId)
     → names ≡ live_names wiki.state.words
-    → (concept : Concept) (found : Result Answers E) → IfOk found (λ a. Answer claims names inside.state.budget concept a.yes a.unknown)
+    → (concept : Concept) (found : Result Answers E) → IfOk found (λ a. Answer claims names (IsCutOff inside.budget) concept a.yes a.unknown)
     → IfOk found (λ a. All (λ n. IsIn inside.interpretation concept (element_of inside.interpretation n)) a.unknown)
     → IfOk found (λ a. AreAnswers wiki concept a.yes a.unknown)
 are-answers inside wiki same claims known names live concept (Err none) answer there = tt
@@ -92,7 +93,7 @@ are-answers inside wiki same claims known names live concept (Ok a) answer there
       claims = claims;
       known = subst (λ (h : Holding). Knows h.state claims) same known;
       answer =
-          subst (λ (ns : List WordId). Answer claims ns wiki.state.budget concept a.yes a.unknown) live
-          (subst (λ (h : Holding). Answer claims names h.state.budget concept a.yes a.unknown) same answer);
+          subst (λ (ns : List WordId). Answer claims ns (IsCutOff wiki.budget) concept a.yes a.unknown) live
+          (subst (λ (h : Holding). Answer claims names (IsCutOff h.budget) concept a.yes a.unknown) same answer);
       there = subst (λ (h : Holding). All (λ n. IsIn h.interpretation concept (element_of h.interpretation n)) a.unknown) same there;
     }

@@ -1,10 +1,12 @@
 -- When a word gets other forms, and when not.
-use Rattle.std.proofs.Common.{◌≡◌, ℕ, ◌+◌, Bool, true, false, not, cond, List, [], ◌∷◌, map, find, All, Option, Some, None, IsSome, inl, inr, refl, sym, ap, subst, ◌∙◌, option_map}
-use Rattle.std.specs.Option.{option_map_or, option_or, option_and_then, IsSomeAnd}
+use Rattle.std.proofs.Common.{◌≡◌, ℕ, ◌+◌, ◌<◌, Bool, true, false, not, cond, List, [], ◌∷◌, map, find, All, AllPairs, Option, Some, None, IsSome, inl, inr, refl, sym, ap, subst, ◌∙◌, option_map, arith}
+use Rattle.std.specs.Option.{option_map_or, option_or, IsSomeAnd}
 use Rattle.std.proofs.lemmas.Bool.{false≢true}
+use Rattle.std.proofs.lemmas.Bool.Decides.{nat_tests}
 use Rattle.std.proofs.lemmas.List.Elements.{All-nil, All-cons, All-head, All-tail, All-append}
 use Rattle.std.proofs.lemmas.Option.{none-some, slice_get_within, get_or_from_slice_get, same_Some}
 use Rattle.wiki_base.specs.declared.numbers.WordId.{WordId}
+use Rattle.wiki_base.proofs.ListLaws.{AllPairs-head, AllPairs-tail}
 use Rattle.wiki_store.proofs.KeepingLemmas.{all_parts}
 use Rattle.lexicon.specs.declared.kinds.Forms.{Forms}
 use Rattle.lexicon.specs.declared.words.Word.{Word}
@@ -12,24 +14,31 @@ use Rattle.lexicon.specs.declared.words.LexFault.{LexFault}
 use Rattle.lexicon.specs.declared.words.LexLimit.{LexLimit}
 use Rattle.lexicon.specs.declared.words.LexFault.TheVariants.{Taken, Reserved, NoWord, Full}
 use Rattle.lexicon.specs.Terminals.{is_reserved}
-use Rattle.lexicon.specs.Words.{Listed, IsLexicon, has_number, owner, forms_of, others, with_forms, first_taken, first_reserved, forms_refusal, reword_refusal}
+use Rattle.lexicon.specs.Words.{Listed, IsLexicon, has_form, has_number, owner, forms_of, others, with_forms, without_word, first_taken, first_reserved, forms_refusal, reword_refusal}
 use Rattle.lexicon.proofs.Owners.{owner_lives, owner-forms_refusal}
 use Rattle.wiki_talk.specs.declared.refusals.Refusal.{Refusal}
+use Rattle.wiki_talk.specs.declared.refusals.Refusal.TheVariants.{InUse}
+use Rattle.wiki_talk.specs.declared.refusals.Refusal.TheVariants.{NoWord as NoForm}
+use Rattle.wiki_talk.specs.declared.replies.Reply.TheVariants as replies
+use Rattle.wiki_talk.specs.declared.requests.WordRequest.TheVariants as of_word
 use Rattle.articles.specs.declared.sentences.Sentence.{Sentence}
 use Rattle.articles.specs.declared.article.Article.{Article}
-use Rattle.articles.specs.Articles.{article_of, HasArticle}
+use Rattle.articles.specs.Articles.{article_of, HasArticle, without_article}
 use Rattle.wiki_parts.specs.declared.faults.Fault.{Fault}
 use Rattle.wiki_parts.specs.declared.faults.Fault.TheVariants.{Refused, Memory}
 use Rattle.wiki_parts.specs.Faults.{IsAbsent, IsCause, IsFault}
-use Rattle.wiki_parts.specs.Knowledge.{sentences_in}
-use Rattle.wiki_parts.specs.Meanings.{Means}
-use Rattle.wiki_parts.specs.Places.{word_named, Placed, placed_from, placed_in, all_placed, IsFirstPlaced}
-use Rattle.wiki_parts.specs.Refusing.{FirstOf, NamesNoWord, IsBadReword, BreaksSentence, IsInUse, KeepsMeaning, IsBroken, reword_cause, uses_word}
-use Rattle.wiki_parts.specs.State.{State, IsSound}
-use Rattle.wiki_parts.specs.Words.{forms_given}
+use Rattle.plain_wiki.specs.Knowledge.{sentences_in}
+use Rattle.plain_wiki.specs.Meanings.{Means}
+use Rattle.plain_wiki.specs.Places.{word_with, word_named, Placed, placed_from, placed_in, all_placed, IsFirstPlaced}
+use Rattle.plain_wiki.specs.Causes.{FirstOf, NoneOf, of_named, is_bad_reword, breaks_sentence, breaks_by_forms, is_in_use, KeepsMeaning, IsBroken, reword_cause, uses_word}
+use Rattle.plain_wiki.specs.State.{Stored}
+use Rattle.plain_wiki.specs.Against.{against_word, against_form}
+use Rattle.plain_wiki.specs.Doing.{RewordsWord, RemovesWord}
+use Rattle.wiki_parts.specs.Sound.{IsSound}
+use Rattle.plain_wiki.specs.Words.{forms_given}
 use Rattle.wiki_parts.proofs.FirstLemmas.{none_stands, nothing_stands}
 use Rattle.wiki_parts.proofs.UseLemmas.{lives-article}
-use Rattle.wiki_store.specs.Rewording.{KeepsSentences, KeepsOthers, TellsBroken}
+use Rattle.wiki_store.specs.Rewording.{KeepsSentences, KeepsOthers, TellsPlace}
 use Rattle.wiki_store.proofs.OtherWords.{means-with_forms}
 
 -- ---- forms of a live word
@@ -147,7 +156,7 @@ each_sentence Q (a ∷ articles) all =
     All-append Q a.sentences (sentences_in articles) (placed_sentences Q a.word 0 a.sentences parts.0) (each_sentence Q articles parts.1)
 
 -- where each sentence keeps its meaning by a word's other forms, the words with them keep what the wiki has
-pub keeps_sentences : (state : State) → IsSound state → (word : WordId) (forms : Forms) (new : Listed) → new ≡ with_forms state.words word forms
+pub keeps_sentences : (state : Stored) → IsSound state → (word : WordId) (forms : Forms) (new : Listed) → new ≡ with_forms state.words word forms
     → All (λ placed. KeepsMeaning state.grammar state.words state.grammar new placed.sentence.tokens) (all_placed state.articles)
     → KeepsSentences state state.grammar new
 keeps_sentences state sound word forms new is all = record {
@@ -158,7 +167,7 @@ keeps_sentences state sound word forms new is all = record {
 }
 
 -- sentences without its old forms keep their meaning
-pub keeps_others : (state : State) → IsSound state → IsLexicon state.words → (word : WordId) (old forms : Forms) → forms_of state.words.live word ≡ Some old
+pub keeps_others : (state : Stored) → IsSound state → IsLexicon state.words → (word : WordId) (old forms : Forms) → forms_of state.words.live word ≡ Some old
     → forms_refusal (others state.words.live word) state.words.terminals forms ≡ None → (new : Listed) → new ≡ with_forms state.words word forms
     → KeepsOthers state.grammar state.words state.grammar new old.texts
 keeps_others state sound lexicon word old forms of_word free new is tokens meaning unused means =
@@ -172,92 +181,147 @@ pub kept_first : (Q P : Placed → Type 0) (xs : List Placed) (first : Placed) �
 kept_first Q P xs first is all =
     subst Q (get_or_from_slice_get xs is.count first first is.here) (all is.count first (slice_get_within xs is.count first is.here))
 
-same_word : (o : Option WordId) (one other : WordId) → o ≡ Some one → o ≡ Some other → one ≡ other
-same_word o one other a b = same_Some one other (sym a ∙ b)
+-- ---- the word that has a form
 
-same_forms : (live : List Word) (one other : WordId) (forms old : Forms) → one ≡ other → forms_of live one ≡ Some forms → forms_of live other ≡ Some old
-    → forms ≡ old
-same_forms live one other forms old same a b = same_Some forms old (sym a ∙ ap (forms_of live) same ∙ b)
+-- what is true of all is true of one that is found
+found-holds : {X : Type 0} (P : X → Type 0) (test : X → Bool) (xs : List X) (x : X) → find test xs ≡ Some x → All P xs → P x
+found-holds P test [] x is all = absurd (none-some x is)
+found-holds {X} P test (y ∷ xs) x is all = by_test (test y) (λ there. found-holds P test xs x there (All-tail P y xs all)) is
+  where
+    by_test : (b : Bool) → (find test xs ≡ Some x → P x) → cond b (Some y) (find test xs) ≡ Some x → P x
+    by_test true rest here = subst P (same_Some y x here) (All-head P y xs all)
+    by_test false rest there = rest there
 
-module _ (state : State) (text : List ℕ) (texts : List (List ℕ)) (word : WordId) (old : Forms) (named : word_named state text ≡ Some word)
-    (of_word : forms_of state.words.live word ≡ Some old) where
+-- a word that is found is the one of its number
+found-numbered : (test : Word → Bool) (live : List Word) → AllPairs (λ word later. word.id.0 < later.id.0) live → (word : Word)
+    → find test live ≡ Some word → find (has_number word.id) live ≡ Some word
+found-numbered test [] in_order word is = is
+found-numbered test (first ∷ live) in_order word is =
+    by_test (test first) refl
+    (found-numbered test live (AllPairs-tail (λ (a b : Word). a.id.0 < b.id.0) first live in_order) word) is
+  where
+    here : (b : Bool) → b ≡ true → first ≡ word → cond b (Some first) (find (has_number word.id) live) ≡ Some word
+    here true same one = ap Some one
+    here false same one = absurd (false≢true same)
+
+    later : (b : Bool) → b ≡ false → find (has_number word.id) live ≡ Some word → cond b (Some first) (find (has_number word.id) live) ≡ Some word
+    later true other rest = absurd (false≢true (sym other))
+    later false other rest = rest
+
+    by_test : (b : Bool) → test first ≡ b → (find test live ≡ Some word → find (has_number word.id) live ≡ Some word)
+        → cond b (Some first) (find test live) ≡ Some word → find (has_number word.id) (first ∷ live) ≡ Some word
+    by_test true tested rest found =
+        let one = same_Some first word found in
+        let number : first.id.0 ≡ word.id.0 = ap (λ (w : Word). w.id.0) one in
+        here (has_number word.id first) (grind (arith, nat_tests)) one
+    by_test false tested rest found =
+        let below : first.id.0 < word.id.0 =
+        found-holds (λ (w : Word). first.id.0 < w.id.0) test live word found (AllPairs-head (λ (a b : Word). a.id.0 < b.id.0) first live in_order) in
+        later (has_number word.id first) (grind (arith, nat_tests)) (rest found)
+
+-- the word that has a form is the one of its number, with its forms
+pub bound-word : (state : Stored) → IsLexicon state.words → (text : List ℕ) (word : WordId) (old : Forms) → word_named state text ≡ Some word
+    → forms_of state.words.live word ≡ Some old → word_with state text ≡ Some (record { id = word; forms = old })
+bound-word state lexicon text word old named lives = by (word_with state text) named (found-numbered (has_form text) state.words.live lexicon.in_order)
+  where
+    by : (o : Option Word) → option_map (λ (w : Word). w.id) o ≡ Some word
+        → ((w : Word) → o ≡ Some w → find (has_number w.id) state.words.live ≡ Some w) → o ≡ Some (record { id = word; forms = old })
+    by None none own = absurd (none-some word none)
+    by (Some w) found own =
+        let number : w.id ≡ word = same_Some w.id word found in
+        let forms : w.forms ≡ old =
+        same_Some w.forms old (sym (ap (option_map (λ (v : Word). v.forms)) (own w refl)) ∙ ap (forms_of state.words.live) number ∙ lives) in
+        ap (λ (id : WordId). Some (let v : Word = record { id = id; forms = w.forms } in v)) number
+        ∙ ap (λ (fs : Forms). Some (let v : Word = record { id = word; forms = fs } in v)) forms
+
+module _ (state : Stored) (text : List ℕ) (texts : List (List ℕ)) (word : WordId) (old : Forms)
+    (there : word_with state text ≡ Some (record { id = word; forms = old })) where
   -- texts against which nothing stands
-  pub no_bad_reword : reword_cause state.words word old.kind texts ≡ None → IsAbsent (IsBadReword state text texts)
-  no_bad_reword none refusal bad =
-      let same : bad.word ≡ word = same_word (word_named state text) bad.word word bad.named named in
-      let forms : bad.old ≡ old = same_forms state.words.live bad.word word bad.old old same bad.of_word of_word in
-      none-some refusal (sym none ∙ sym (ap (λ (w : WordId). reword_cause state.words w bad.old.kind texts) same
-      ∙ ap (λ (f : Forms). reword_cause state.words word f.kind texts) forms) ∙ bad.told)
+  no_bad_reword : reword_cause state.words word old.kind texts ≡ None → IsAbsent (is_bad_reword state (record { id = word; forms = old }) texts)
+  no_bad_reword none refusal bad = none-some refusal (sym none ∙ bad)
 
   -- and by which no sentence breaks
-  pub none_breaks : (new : Listed) → new ≡ with_forms state.words word (forms_given old.kind texts)
+  none_breaks : (new : Listed) → new ≡ with_forms state.words word (forms_given old.kind texts)
       → All (λ placed. KeepsMeaning state.grammar state.words state.grammar new placed.sentence.tokens) (all_placed state.articles)
-      → IsAbsent (BreaksSentence state text texts)
+      → IsAbsent (breaks_by_forms state (record { id = word; forms = old }) texts)
   none_breaks new is all refusal bad =
-      let same : bad.word ≡ word = same_word (word_named state text) bad.word word bad.named named in
-      let forms : bad.old ≡ old = same_forms state.words.live bad.word word bad.old old same bad.of_word of_word in
-      let words : with_forms state.words bad.word (forms_given bad.old.kind texts) ≡ new =
-      ap (λ (w : WordId). with_forms state.words w (forms_given bad.old.kind texts)) same
-      ∙ ap (λ (f : Forms). with_forms state.words word (forms_given f.kind texts)) forms ∙ sym is in
-      let kept : KeepsMeaning state.grammar state.words state.grammar new bad.first.sentence.tokens =
+      let kept : KeepsMeaning state.grammar state.words state.grammar new bad.0.sentence.tokens =
       kept_first (λ placed. KeepsMeaning state.grammar state.words state.grammar new placed.sentence.tokens)
-      (IsBroken state state.grammar (with_forms state.words bad.word (forms_given bad.old.kind texts)))
-      (all_placed state.articles) bad.first bad.breaks all in
-      bad.breaks.holds (subst (λ (ws : Listed). KeepsMeaning state.grammar state.words state.grammar ws bad.first.sentence.tokens) (sym words) kept)
-
-  -- the word is named
-  pub is_named : IsAbsent (NamesNoWord state text)
-  is_named refusal none = none-some old (sym none.none ∙ ap (option_and_then (forms_of state.words.live)) named ∙ of_word)
+      (IsBroken state state.grammar (with_forms state.words word (forms_given old.kind texts)))
+      (all_placed state.articles) bad.0 bad.1 all in
+      bad.1.holds (subst (λ (ws : Listed). KeepsMeaning state.grammar state.words state.grammar ws bad.0.sentence.tokens) is kept)
 
   -- so nothing stands against the other forms
   pub reword_free : (new : Listed) → new ≡ with_forms state.words word (forms_given old.kind texts) → reword_cause state.words word old.kind texts ≡ None
       → All (λ placed. KeepsMeaning state.grammar state.words state.grammar new placed.sentence.tokens) (all_placed state.articles)
-      → IsAbsent (FirstOf (NamesNoWord state text ∷ IsBadReword state text texts ∷ BreaksSentence state text texts ∷ []))
+      → NoneOf (against_form state text (against_word state (of_word.Reword texts)))
   reword_free new is none all =
-      none_stands (NamesNoWord state text) (IsBadReword state text texts ∷ BreaksSentence state text texts ∷ []) is_named
-      (none_stands (IsBadReword state text texts) (BreaksSentence state text texts ∷ []) (no_bad_reword none)
-      (none_stands (BreaksSentence state text texts) [] (none_breaks new is all) nothing_stands))
+      let w : Word = record { id = word; forms = old } in
+      subst (λ (o : Option Word). NoneOf (of_named o (NoForm text) (against_word state (of_word.Reword texts)))) (sym there)
+      (none_stands (is_bad_reword state w texts) (breaks_by_forms state w texts ∷ []) (no_bad_reword none)
+      (none_stands (breaks_by_forms state w texts) [] (none_breaks new is all) nothing_stands))
 
   -- a text that can't be a form is told
   pub bad_reword : (refusal : Refusal) → reword_cause state.words word old.kind texts ≡ Some refusal
-      → FirstOf (NamesNoWord state text ∷ IsBadReword state text texts ∷ BreaksSentence state text texts ∷ []) refusal
-  bad_reword refusal told = inr (is_named, inl (record { word = word; named = named; old = old; of_word = of_word; told = told }))
+      → FirstOf (against_form state text (against_word state (of_word.Reword texts))) refusal
+  bad_reword refusal told =
+      subst (λ (o : Option Word). FirstOf (of_named o (NoForm text) (against_word state (of_word.Reword texts))) refusal) (sym there) (inl told)
 
   -- a sentence that breaks is told
   pub broken_told : (new : Listed) → new ≡ with_forms state.words word (forms_given old.kind texts) → reword_cause state.words word old.kind texts ≡ None
-      → (refusal : Refusal) → TellsBroken state state.grammar new refusal
-      → FirstOf (NamesNoWord state text ∷ IsBadReword state text texts ∷ BreaksSentence state text texts ∷ []) refusal
+      → (refusal : Refusal) → breaks_sentence state state.grammar new refusal
+      → FirstOf (against_form state text (against_word state (of_word.Reword texts))) refusal
   broken_told new is none refusal broken =
-      inr (
-        is_named,
-        inr (
-          no_bad_reword none,
-          inl (record {
-            word = word;
-            named = named;
-            old = old;
-            of_word = of_word;
-            first = broken.first;
-            breaks = subst (λ (ws : Listed). IsFirstPlaced (IsBroken state state.grammar ws)
-                (all_placed state.articles) broken.first) is broken.breaks;
-            told = broken.told;
-          }),
+      subst (λ (o : Option Word). FirstOf (of_named o (NoForm text) (against_word state (of_word.Reword texts))) refusal) (sym there)
+      (inr (
+        no_bad_reword none,
+        inl (
+          broken.0,
+          subst (λ (ws : Listed). IsFirstPlaced (IsBroken state state.grammar ws) (all_placed state.articles) broken.0) is broken.1,
+          broken.2,
         ),
-      )
+      ))
 
-  -- ---- a word that goes
+  -- the word with the other forms
+  pub rewords-word : (new : Listed) → new ≡ with_forms state.words word (forms_given old.kind texts)
+      → IsSomeAnd (word_with state text) (λ w. RewordsWord w texts state replies.Reword (record state { words = new }))
+  rewords-word new is =
+      subst (λ (o : Option Word). IsSomeAnd o (λ w. RewordsWord w texts state replies.Reword (record state { words = new }))) (sym there)
+      (record { answer = refl; after = ap (λ (ws : Listed). record state { words = ws }) is })
 
-  pub none_uses : find (uses_word word old) (all_placed state.articles) ≡ None → IsAbsent (IsInUse state text)
-  none_uses none refusal bad =
-      let same : bad.word ≡ word = same_word (word_named state text) bad.word word bad.named named in
-      let forms : bad.forms ≡ old = same_forms state.words.live bad.word word bad.forms old same bad.of_word of_word in
-      none-some bad.first
-      (sym none ∙ sym (ap (λ (w : WordId). find (uses_word w bad.forms) (all_placed state.articles)) same
-      ∙ ap (λ (f : Forms). find (uses_word word f) (all_placed state.articles)) forms) ∙ bad.uses)
+-- ---- a word that goes
 
-  pub unword_free : find (uses_word word old) (all_placed state.articles) ≡ None → IsAbsent (FirstOf (NamesNoWord state text ∷ IsInUse state text ∷ []))
+module _ (state : Stored) (text : List ℕ) (word : WordId) (old : Forms) (there : word_with state text ≡ Some (record { id = word; forms = old })) where
+  none_uses : find (uses_word word old) (all_placed state.articles) ≡ None → IsAbsent (is_in_use state (record { id = word; forms = old }))
+  none_uses none refusal bad = none-some bad.0 (sym none ∙ bad.1)
+
+  pub unword_free : find (uses_word word old) (all_placed state.articles) ≡ None → NoneOf (against_form state text (against_word state of_word.Unword))
   unword_free none =
-      none_stands (NamesNoWord state text) (IsInUse state text ∷ []) is_named (none_stands (IsInUse state text) [] (none_uses none) nothing_stands)
+      let w : Word = record { id = word; forms = old } in
+      subst (λ (o : Option Word). NoneOf (of_named o (NoForm text) (against_word state of_word.Unword))) (sym there)
+      (none_stands (is_in_use state w) [] (none_uses none) nothing_stands)
+
+  -- a word that a sentence needs is refused
+  pub unword-refuses : (found : Placed) → find (uses_word word old) (all_placed state.articles) ≡ Some found → (refusal : Refusal)
+      → TellsPlace state (λ form place. InUse form place) found.word found.place refusal
+      → FirstOf (against_form state text (against_word state of_word.Unword)) refusal
+  unword-refuses found is refusal told =
+      subst (λ (o : Option Word). FirstOf (of_named o (NoForm text) (against_word state of_word.Unword)) refusal) (sym there)
+      (inl (found, is, (told.form, told.spelled, told.told)))
+
+  pub removes-word : (new : Listed) → new ≡ without_word state.words word
+      → IsSomeAnd (word_with state text)
+      (λ w. RemovesWord w state replies.Unword (record state { words = new; articles = without_article state.articles word }))
+  removes-word new is =
+      subst (λ (o : Option Word). IsSomeAnd o
+      (λ w. RemovesWord w state replies.Unword (record state { words = new; articles = without_article state.articles word }))) (sym there)
+      (record { answer = refl; after = ap (λ (ws : Listed). record state { words = ws; articles = without_article state.articles word }) is })
+
+-- no word has the form
+pub unknown-form : (state : Stored) (text : List ℕ) (causes : Word → List (Refusal → Type 0)) (refusal : Refusal)
+    → (word_with state text ≡ None) × (refusal ≡ NoForm text) → FirstOf (against_form state text causes) refusal
+unknown-form state text causes refusal none =
+    subst (λ (o : Option Word). FirstOf (of_named o (NoForm text) causes) refusal) (sym none.0) (inl none.1)
 
 -- ---- faults
 
@@ -276,7 +340,7 @@ pub lives_by : (o : Option Forms) (forms : Forms) → o ≡ Some forms → IsSom
 lives_by o forms is = subst (λ (q : Option Forms). IsSome q) (sym is) refl
 
 -- a live word has an article
-pub has_article : (state : State) → IsSound state → (word : WordId) → IsSome (forms_of state.words.live word) → HasArticle state.articles word
+pub has_article : (state : Stored) → IsSound state → (word : WordId) → IsSome (forms_of state.words.live word) → HasArticle state.articles word
 has_article state sound word lives = by (article_of state.articles word) (lives-article state.articles state.words.live word sound.articles lives)
   where
     by : (o : Option Article) → IsSome o → IsSomeAnd o (λ _. Unit {0})

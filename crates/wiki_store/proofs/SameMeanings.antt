@@ -11,7 +11,7 @@ use Rattle.logic_terms.specs.Interpretation.{is_word}
 use Rattle.logic_terms.specs.Same.{same_role, same_concept}
 use Rattle.logic_terms.proofs.SameLemmas.{word_equal, role_equal, same_concept-equal, same_word, same_role-self, same_concept-self}
 use Rattle.logic_terms.proofs.Walks.{left_none}
-use Rattle.wiki_parts.specs.Meanings.{Meaning, stating, outside, asking, asking_outside}
+use Rattle.plain_wiki.specs.Meanings.{Meaning, stating, outside, asking, asking_outside}
 use Rattle.wiki_store.specs.Sameness.{same_cause, same_claim, same_claims, same_meaning}
 
 cause_equal : (c d : Cause) → same_cause c d ≡ true → c ≡ d

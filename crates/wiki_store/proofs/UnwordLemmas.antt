@@ -1,7 +1,7 @@
 -- What taking a word out asks of the sentences and articles, and what it leaves.
-use Rattle.std.proofs.Common.{◌≡◌, ℕ, zero, suc, ◌+◌, ◌<◌, ◌≤◌, ◌==◌, Bool, true, false, not, cond, List, [], ◌∷◌, length, map, filter, find, Option, Some, None, IsSome, is_some, Result, Ok, Err, OnOk, IfErr, refl, sym, ap, subst, ◌∙◌, arith, option_map, inl, inr}
+use Rattle.std.proofs.Common.{◌≡◌, ℕ, zero, suc, ◌+◌, ◌<◌, ◌≤◌, ◌==◌, Bool, true, false, not, cond, List, [], ◌∷◌, length, map, filter, find, Option, Some, None, IsSome, is_some, Result, Ok, Err, OnOk, IfErr, refl, sym, ap, subst, ◌∙◌, arith, option_map}
 use Rattle.std.specs.List.{slice_get}
-use Rattle.std.specs.Option.{option_map_or, option_or, option_and_then, IsSomeAnd}
+use Rattle.std.specs.Option.{option_map_or, option_or, IsSomeAnd}
 use Rattle.std.proofs.lemmas.Bool.{false≢true}
 use Rattle.std.proofs.lemmas.Bool.Decides.{nat_tests}
 use Rattle.std.proofs.lemmas.List.Elements.{All-filter}
@@ -11,19 +11,17 @@ use Rattle.wiki_base.specs.declared.numbers.WordId.{WordId}
 use Rattle.wiki_base.specs.declared.numbers.Place.{Place}
 use Rattle.lexicon.specs.declared.kinds.Forms.{Forms}
 use Rattle.lexicon.specs.declared.words.Word.{Word}
-use Rattle.lexicon.specs.Words.{owner, has_number, forms_of, without_word}
+use Rattle.lexicon.specs.Words.{has_number, forms_of, without_word}
 use Rattle.lexicon.specs.declared.words.LexFault.{LexFault}
 use Rattle.lexicon.specs.declared.words.LexFault.TheVariants.{NoWord}
-use Rattle.wiki_talk.specs.declared.refusals.Refusal.{Refusal}
-use Rattle.wiki_talk.specs.declared.refusals.Refusal.TheVariants.{InUse}
 use Rattle.wiki_talk.specs.declared.limits.TheConstants.{MOST_SENTENCES}
 use Rattle.articles.specs.declared.sentences.Sentence.{Sentence}
 use Rattle.articles.specs.declared.article.Article.{Article}
 use Rattle.articles.specs.Articles.{is_of, article_of, without_article, IsEmptyArticle}
-use Rattle.wiki_parts.specs.State.{State, IsSound}
-use Rattle.wiki_parts.specs.Words.{word_with}
-use Rattle.wiki_parts.specs.Refusing.{uses_word, FirstOf, NamesNoWord, IsInUse, TellsPlace}
-use Rattle.wiki_parts.specs.Places.{Placed, placed_from, placed_in, all_placed, told_place}
+use Rattle.plain_wiki.specs.State.{Stored}
+use Rattle.wiki_parts.specs.Sound.{IsSound}
+use Rattle.plain_wiki.specs.Places.{Placed, placed_from, placed_in, all_placed, told_place}
+use Rattle.plain_wiki.specs.Causes.{uses_word}
 use Rattle.wiki_parts.proofs.UseLemmas.{lives-article, empty-unused}
 
 -- something that is there
@@ -89,7 +87,7 @@ lives-at (word ∷ live) id (suc k) here = by_test (has_number id word) (lives-a
     by_test true rest = refl
     by_test false rest = rest
 
-module _ (state : State) (sound : IsSound state) (test : Placed → Bool) (found : Placed) (is : find test (all_placed state.articles) ≡ Some found) where
+module _ (state : Stored) (sound : IsSound state) (test : Placed → Bool) (found : Placed) (is : find test (all_placed state.articles) ≡ Some found) where
   at_last : FoundAt state.articles found
   at_last = found-at test state.articles found is
 
@@ -116,7 +114,7 @@ none-found None none = refl
 none-found (Some found) none = absurd (none-some (told_place found) (sym none))
 
 -- a word that no sentence needs has an empty article
-pub empty-article : (state : State) → IsSound state → (word : WordId) (forms : Forms) → IsSome (forms_of state.words.live word)
+pub empty-article : (state : Stored) → IsSound state → (word : WordId) (forms : Forms) → IsSome (forms_of state.words.live word)
     → find (uses_word word forms) (all_placed state.articles) ≡ None → IsEmptyArticle state.articles word
 empty-article state sound word forms lives none =
     by_case (article_of state.articles word) (lives-article state.articles state.words.live word sound.articles lives)
@@ -140,7 +138,7 @@ numbers-without {X} id_of id (x ∷ xs) = by_test ((id_of x).0 == id.0) (numbers
     by_test false rest = ap (λ (ids : List WordId). id_of x ∷ ids) rest
 
 -- the wiki without a word and its article is sound
-pub sound-without : (state : State) → IsSound state → (word : WordId)
+pub sound-without : (state : Stored) → IsSound state → (word : WordId)
     → IsSound (record state { words = without_word state.words word; articles = without_article state.articles word })
 sound-without state sound word = record {
   labelled = sound.labelled;
@@ -149,24 +147,6 @@ sound-without state sound word = record {
       ∙ sym (numbers-without (λ (w : Word). w.id) word state.words.live);
   few = All-filter (λ (a : Article). not (is_of word a)) (λ (a : Article). length a.sentences ≤ MOST_SENTENCES) state.articles sound.few;
 }
-
--- a word that has the form lives
-names-word : (state : State) (text : List ℕ) (word : WordId) (forms : Forms) → owner state.words.live text ≡ Some word
-    → forms_of state.words.live word ≡ Some forms
-    → word_with state.words text ≡ Some forms
-names-word state text word forms named of_word = ap (option_and_then (forms_of state.words.live)) named ∙ of_word
-
--- a word that a sentence needs is refused
-pub unword-refuses : (state : State) (text : List ℕ) (word : WordId) (forms : Forms) → owner state.words.live text ≡ Some word
-    → forms_of state.words.live word ≡ Some forms
-    → (found : Placed) → find (uses_word word forms) (all_placed state.articles) ≡ Some found → (refusal : Refusal)
-    → TellsPlace state (λ form place. InUse form place) found.word found.place refusal
-    → FirstOf (NamesNoWord state text ∷ IsInUse state text ∷ []) refusal
-unword-refuses state text word forms named of_word found is refusal told =
-    inr (
-      λ other none. none-some forms (sym none.none ∙ names-word state text word forms named of_word),
-      inl (record { word = word; named = named; forms = forms; of_word = of_word; first = found; uses = is; told = told }),
-    )
 
 -- taking out a word that lives is no fault
 pub removed-there : {P : Type 0} (result : Result (Unit {0}) LexFault) (word : WordId) (forms : Option Forms) → OnOk result P

@@ -22,11 +22,11 @@ use Rattle.articles.specs.Places.{IsPlaceOf}
 use Rattle.articles.proofs.PlaceLemmas.{article_at, without_article-remove}
 use Rattle.wiki_parts.specs.declared.meanings.Sense.{Sense}
 use Rattle.wiki_parts.specs.Kept.{meanings_in, known_of, known_in, MeanEach, MeanInEach, IsKeeping}
-use Rattle.wiki_parts.specs.Knowledge.{sentences_in}
-use Rattle.wiki_parts.specs.Meanings.{Meaning, Means}
-use Rattle.wiki_parts.specs.Places.{placed_from, placed_in, all_placed}
-use Rattle.wiki_parts.specs.Refusing.{KeepsMeaning, uses_word}
-use Rattle.wiki_parts.specs.State.{State}
+use Rattle.plain_wiki.specs.Knowledge.{sentences_in}
+use Rattle.plain_wiki.specs.Meanings.{Meaning, Means}
+use Rattle.plain_wiki.specs.Places.{placed_from, placed_in, all_placed}
+use Rattle.plain_wiki.specs.Causes.{KeepsMeaning, uses_word}
+use Rattle.plain_wiki.specs.State.{Stored}
 use Rattle.wiki_parts.proofs.MeaningLemmas.{means_one}
 use Rattle.wiki_parts.proofs.UseLemmas.{empty-unused, find-neither}
 use Rattle.wiki_store.specs.Rewording.{KeepsSentences, IsGone}
@@ -86,7 +86,7 @@ sentences-added : (articles : List Article) (word : WordId) → sentences_in (ar
 sentences-added articles word = flat_map-append (λ (a : Article). a.sentences) articles (new_article word ∷ []) ∙ append-nil (sentences_in articles)
 
 -- what is kept with a word more, and its empty article
-pub keeps_added : (state : State) (senses : List (List Sense)) (model : CheckedModel) (forms : Forms) (word : WordId) → IsKeeping state senses model
+pub keeps_added : (state : Stored) (senses : List (List Sense)) (model : CheckedModel) (forms : Forms) (word : WordId) → IsKeeping state senses model
     → add_refusal state.words forms ≡ None
     → word ≡ (next_word state.words forms).id
     → IsKeeping (record state { words = with_word state.words forms; articles = state.articles ++ new_article word ∷ [] }) (senses ++ [] ∷ []) model
@@ -173,7 +173,7 @@ sentences-removed (b ∷ articles) zero a here empty =
 sentences-removed (b ∷ articles) (suc place) a here empty = ap (λ (ss : List Sentence). b.sentences ++ ss) (sentences-removed articles place a here empty)
 
 -- what is kept without a word that no sentence needs, and without its empty article
-pub keeps_without : (state : State) (senses : List (List Sense)) (model : CheckedModel) (word : WordId) (place : ℕ) (new : Listed)
+pub keeps_without : (state : Stored) (senses : List (List Sense)) (model : CheckedModel) (word : WordId) (place : ℕ) (new : Listed)
     → IsKeeping state senses model → AreInOrder state.articles
     → IsLexicon state.words → IsGone state word new → IsPlaceOf state.articles word place
     → IsKeeping (record state { words = new; articles = without_article state.articles word }) (remove senses place) model
@@ -207,7 +207,7 @@ keeps_without state senses model word place new keeping ordered lexicon gone is 
 -- ---- another grammar, or other forms
 
 -- what is kept by a grammar and words by which each sentence keeps its meaning
-pub keeps_regrounded : (state : State) (senses : List (List Sense)) (model : CheckedModel) (other : GrammarParts) (new : Listed)
+pub keeps_regrounded : (state : Stored) (senses : List (List Sense)) (model : CheckedModel) (other : GrammarParts) (new : Listed)
     → IsKeeping state senses model → IsTrue (is_labelled other) → KeepsSentences state other new
     → IsKeeping (record state { grammar = other; words = new }) senses model
 keeps_regrounded state senses model other new keeping labelled keeps =
@@ -229,7 +229,7 @@ keeps_regrounded state senses model other new keeping labelled keeps =
     }
 
 -- and by words alone
-pub keeps_reworded : (state : State) (senses : List (List Sense)) (model : CheckedModel) (new : Listed) → IsKeeping state senses model
+pub keeps_reworded : (state : Stored) (senses : List (List Sense)) (model : CheckedModel) (new : Listed) → IsKeeping state senses model
     → KeepsSentences state state.grammar new
     → IsKeeping (record state { words = new }) senses model
 keeps_reworded state senses model new keeping keeps = keeps_regrounded state senses model state.grammar new keeping keeping.sound.labelled keeps

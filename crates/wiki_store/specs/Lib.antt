@@ -1,10 +1,8 @@
-pub mod Appending
 pub mod Putting
+pub mod Asking
 pub mod PuttingBack
 pub mod Remembered
 pub mod Spending
-pub mod Step
 pub mod Rewording
 pub mod Sameness
 pub mod Settled
-pub mod Unchanged

@@ -10,12 +10,13 @@ use Rattle.wiki_talk.specs.declared.statuses.Status.{Status}
 use Rattle.wiki_talk.specs.declared.statuses.Status.TheVariants.{Asserted, RedBudget}
 use Rattle.articles.specs.declared.sentences.Sentence.{Sentence}
 use Rattle.articles.specs.Articles.{CanChange, HasPlace, with_change}
-use Rattle.wiki_parts.specs.State.{State}
 use Rattle.wiki_parts.specs.Found.{meaning_shown}
 use Rattle.wiki_parts.specs.Holding.{Holding}
 use Rattle.wiki_parts.specs.Kept.{known_in, known_around, IsAround}
-use Rattle.wiki_parts.specs.Knowledge.{sentences_in, GetStatus, Knows}
-use Rattle.wiki_parts.specs.Meanings.{Means}
+use Rattle.wiki_parts.specs.Spending.{IsCutOff}
+use Rattle.plain_wiki.specs.State.{Stored}
+use Rattle.plain_wiki.specs.Knowledge.{sentences_in, GetStatus, Knows}
+use Rattle.plain_wiki.specs.Meanings.{Means}
 use Rattle.wiki_store.specs.declared.joining.Joined.{Joined}
 use Rattle.wiki_store.specs.declared.joining.Stretch.{Stretch}
 use Rattle.wiki_store.specs.declared.putting.Change.{Change}
@@ -27,16 +28,16 @@ abbrev pub spliced : {X : Type 0} → List X → ℕ → ℕ → X → List X
 spliced xs from to x = take from xs ++ x ∷ drop to xs
 
 -- the wiki with a sentence in place of those of an article from a place to before another
-abbrev pub with_put : State → WordId → ℕ → ℕ → Sentence → State
+abbrev pub with_put : Stored → WordId → ℕ → ℕ → Sentence → Stored
 with_put old word from to sentence = record old { articles = with_change old.articles word (λ sentences. spliced sentences from to sentence) }
 
 -- the wiki with the change, whose sentence has this status
-abbrev pub with_made : State → Change → Status → State
+abbrev pub with_made : Stored → Change → Status → Stored
 with_made old change status = with_put old change.word change.from change.to (record { tokens = change.tokens; status = status })
 
 -- The change can be made: its article can change and has those places; it replaces one sentence at most, or there is room for one more;
 -- its tokens are few enough, and it has what they mean.
-pub record CanBeMade (state : State) (change : Change) : Type 0 where
+pub record CanBeMade (state : Stored) (change : Change) : Type 0 where
   pub changes : CanChange state.articles change.word
   pub rises : change.from ≤ change.to
   pub narrow : change.to ≤ change.from + 1
@@ -48,8 +49,9 @@ pub record CanBeMade (state : State) (change : Change) : Type 0 where
 -- The change is made: its sentence has the status that it gets there, which is red for the budget only where the kept interpretation is
 -- no model of what is known with it.
 pub record IsMade (old : Holding) (change : Change) (status : Status) (new : Holding) : Type 0 where
-  pub gets : GetStatus (with_made old.state change Asserted) change.tokens status
+  pub gets : GetStatus (IsCutOff old.budget) (with_made old.state change Asserted) change.tokens status
   pub after : new.state ≡ with_made old.state change status
+  pub budget : new.budget ≡ old.budget
   pub spent : status ≡ RedBudget → (claims : List Claim) → Knows (with_made old.state change Asserted) claims → ¬ IsModel old.interpretation claims
 
 -- ---- what is known around a stretch of sentences

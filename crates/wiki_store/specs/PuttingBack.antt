@@ -10,17 +10,17 @@ use Rattle.articles.specs.Articles.{article_of, with_change, HasArticle}
 use Rattle.history.specs.declared.kept.Kept.{Kept}
 use Rattle.wiki_parts.specs.Holding.{Holding}
 use Rattle.wiki_parts.specs.Kept.{meanings_in, MeanEach}
-use Rattle.wiki_parts.specs.Knowledge.{sentences_in, Knows}
-use Rattle.wiki_parts.specs.State.{State}
+use Rattle.plain_wiki.specs.Knowledge.{sentences_in, Knows}
+use Rattle.plain_wiki.specs.State.{Stored}
 
 -- the wiki in which the word's article has these sentences, at its next revision
-abbrev pub with_sentences : State → WordId → List Sentence → State
+abbrev pub with_sentences : Stored → WordId → List Sentence → Stored
 with_sentences state word sentences = record state { articles = with_change state.articles word (λ _. sentences) }
 
 -- What was kept can be put back: the article is there; each of its former sentences has a derivation from the present words, the meaning
 -- that was kept, and a status that fits it, and none has too many tokens; with them there are no more sentences than there may be, and
 -- the interpretation that was kept is a model of exactly the axioms that the wiki then knows.
-pub record CanBePut (state : State) (kept : Kept) : Type 0 where
+pub record CanBePut (state : Stored) (kept : Kept) : Type 0 where
   pub there : HasArticle state.articles kept.article
   pub mean : MeanEach state.grammar state.words kept.sentences (meanings_in kept.senses)
   pub short : All (λ sentence. length sentence.tokens ≤ MOST_TOKENS) kept.sentences
@@ -31,7 +31,7 @@ pub record CanBePut (state : State) (kept : Kept) : Type 0 where
 
 -- the wiki in which it was put back: the article's former sentences, and the former interpretation
 abbrev pub put_back : Holding → Kept → Holding
-put_back wiki kept = record { state = with_sentences wiki.state kept.article kept.sentences; interpretation = kept.interp }
+put_back wiki kept = record wiki { state = with_sentences wiki.state kept.article kept.sentences; interpretation = kept.interp }
 
 -- what is kept of an article that is there: its sentences, and the interpretation that the wiki keeps; and it can be put back
 pub record IsOfArticle (wiki : Holding) (word : WordId) (kept : Kept) : Type 0 where

@@ -5,25 +5,24 @@ use Rattle.wiki_base.specs.declared.numbers.WordId.{WordId}
 use Rattle.wiki_base.specs.declared.numbers.Place.{Place}
 use Rattle.codeco_terms.specs.GrammarParts.{GrammarParts}
 use Rattle.lexicon.specs.declared.kinds.Forms.{Forms}
-use Rattle.lexicon.specs.Words.{Listed, is_among, forms_of, without_word}
-use Rattle.wiki_parts.specs.State.{State}
+use Rattle.lexicon.specs.Words.{Listed, is_among, forms_of, canonical_form_of, without_word}
+use Rattle.plain_wiki.specs.State.{Stored}
 use Rattle.wiki_talk.specs.declared.refusals.Refusal.{Refusal}
-use Rattle.wiki_talk.specs.declared.refusals.Refusal.TheVariants.{Breaks}
-use Rattle.wiki_parts.specs.Places.{Placed, all_placed, told_place, IsFirstPlaced}
-use Rattle.wiki_parts.specs.Meanings.{Meaning, Means}
-use Rattle.wiki_parts.specs.Knowledge.{sentences_in}
-use Rattle.wiki_parts.specs.Refusing.{KeepsMeaning, IsBroken, uses_word, TellsPlace}
+use Rattle.plain_wiki.specs.Places.{Placed, all_placed, told_place}
+use Rattle.plain_wiki.specs.Meanings.{Meaning, Means}
+use Rattle.plain_wiki.specs.Knowledge.{sentences_in}
+use Rattle.plain_wiki.specs.Causes.{KeepsMeaning, uses_word}
 
 -- The words stand beside the terminals of the grammar, they have the numbers of the wiki's words, and each sentence keeps its meaning by the
 -- two.
-pub record KeepsSentences (state : State) (other : GrammarParts) (new : Listed) : Type 0 where
+pub record KeepsSentences (state : Stored) (other : GrammarParts) (new : Listed) : Type 0 where
   pub numbers : map (λ word. word.id) new.live ≡ map (λ word. word.id) state.words.live
   pub terminals : new.terminals ≡ other.terminals
   pub last : new.last ≡ state.words.last
   pub keep : All (λ sentence. KeepsMeaning state.grammar state.words other new sentence.tokens) (sentences_in state.articles)
 
 -- the words are those of the wiki but for one that no sentence needs
-pub record IsGone (state : State) (word : WordId) (new : Listed) : Type 0 where
+pub record IsGone (state : Stored) (word : WordId) (new : Listed) : Type 0 where
   pub forms : Forms
   pub of_word : forms_of state.words.live word ≡ Some forms
   pub unused : find (uses_word word forms) (all_placed state.articles) ≡ None
@@ -51,8 +50,8 @@ pub record FindsPlace (P : Placed → Type 0) (sentences : List Placed) (place :
   pub told : option_map told_place found ≡ place
   pub finds : Finds P sentences found
 
--- the first sentence that doesn't keep its meaning by the other grammar and words is told
-pub record TellsBroken (state : State) (other : GrammarParts) (new : Listed) (refusal : Refusal) : Type 0 where
-  pub first : Placed
-  pub breaks : IsFirstPlaced (IsBroken state other new) (all_placed state.articles) first
-  pub told : TellsPlace state Breaks first.word first.place refusal
+-- a place is told by the canonical form of its article's word
+pub record TellsPlace (stored : Stored) (tell : List ℕ → ℕ → Refusal) (word : WordId) (place : ℕ) (refusal : Refusal) : Type 0 where
+  pub form : List ℕ
+  pub spelled : canonical_form_of stored.words.live word ≡ Some form
+  pub told : refusal ≡ tell form place

@@ -5,7 +5,7 @@ use Rattle.logic_terms.specs.declared.cause.Cause.TheVariants.{Shared, Cycle, No
 use Rattle.logic_terms.specs.Concept.{Claim, SubClassOf, SubPropertyOf, ClassAssertion, PropertyAssertion, NegativePropertyAssertion, SameIndividual, DifferentIndividuals, TransitiveProperty}
 use Rattle.logic_terms.specs.Interpretation.{is_word}
 use Rattle.logic_terms.specs.Same.{same_role, same_concept}
-use Rattle.wiki_parts.specs.Meanings.{Meaning, stating, outside, asking, asking_outside}
+use Rattle.plain_wiki.specs.Meanings.{Meaning, stating, outside, asking, asking_outside}
 
 abbrev pub same_cause : Cause → Cause → Bool
 same_cause Shared Shared = true

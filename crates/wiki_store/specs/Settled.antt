@@ -4,11 +4,11 @@ use Rattle.wiki_base.specs.declared.numbers.WordId.{WordId}
 use Rattle.absorb.specs.Absorbed.{IsAbsorbed}
 use Rattle.logic_terms.specs.Concept.{Claim}
 use Rattle.logic_terms.specs.Theory.{Theory}
-use Rattle.wiki_parts.specs.State.{State}
-use Rattle.wiki_parts.specs.Knowledge.{Knows}
+use Rattle.plain_wiki.specs.State.{Stored}
+use Rattle.plain_wiki.specs.Knowledge.{Knows}
 use Rattle.logic_terms.specs.Interpretation.{Interpretation}
 use Rattle.logic_terms.specs.Reading.{IsModel}
-use Rattle.wiki_parts.specs.Meanings.{Meaning, stating}
+use Rattle.plain_wiki.specs.Meanings.{Meaning, stating}
 
 -- a statement whose axioms are true in the interpretation
 abbrev pub IsTrueIn : Interpretation → Meaning → Type 0
@@ -16,5 +16,5 @@ IsTrueIn i (stating claims) = IsModel i claims
 IsTrueIn _ _ = ⊥
 
 -- what the wiki knows is absorbed to this knowledge, with these names
-abbrev pub AbsorbsKnown : State → List WordId → Theory → Type 0
+abbrev pub AbsorbsKnown : Stored → List WordId → Theory → Type 0
 AbsorbsKnown state names knowledge = (claims : List Claim) → Knows state claims → IsAbsorbed claims names knowledge

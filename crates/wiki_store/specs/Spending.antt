@@ -1,5 +1,5 @@
--- What a step says of the model that was kept before it: no budget is told as spent where that model decides.
-use Rattle.std.specs.Prelude.{◌≡◌, ℕ, List, All, IfSome, MatchBool, Option, Some, None, option_map, option_and_then}
+-- What is said of the model that was kept before a step: no budget is told as spent where that model decides.
+use Rattle.std.specs.Prelude.{◌≡◌, ℕ, List, All, IfSome, MatchBool, Option, Some, None}
 use Rattle.std.specs.List.{AllZip}
 use Rattle.wiki_base.specs.declared.numbers.WordId.{WordId}
 use Rattle.logic_terms.specs.Concept.{Concept, Claim}
@@ -10,39 +10,35 @@ use Rattle.wiki_talk.specs.declared.statuses.Status.TheVariants.{Asserted, RedBu
 use Rattle.wiki_talk.specs.declared.replies.SentenceView.{SentenceView}
 use Rattle.wiki_talk.specs.declared.replies.Reply.{Reply}
 use Rattle.wiki_talk.specs.declared.replies.Reply.TheVariants as replies
-use Rattle.wiki_talk.specs.declared.requests.Request.{Request}
-use Rattle.wiki_talk.specs.declared.requests.Request.TheVariants as requests
 use Rattle.wiki_talk.specs.Statuses.{is_question}
 use Rattle.articles.specs.declared.sentences.Sentence.{Sentence}
-use Rattle.wiki_parts.specs.State.{State}
-use Rattle.wiki_parts.specs.Places.{word_named, article_named}
-use Rattle.wiki_parts.specs.Meanings.{asking, Means}
-use Rattle.wiki_parts.specs.Knowledge.{Knows}
-use Rattle.wiki_parts.specs.Telling.{spelled}
-use Rattle.wiki_store.specs.Step.{with_inserted, with_replaced, with_marked, sentence_with, place_for}
+use Rattle.plain_wiki.specs.State.{Stored}
+use Rattle.plain_wiki.specs.Places.{article_named}
+use Rattle.plain_wiki.specs.Meanings.{asking, Means}
+use Rattle.plain_wiki.specs.Knowledge.{Knows}
+use Rattle.plain_wiki.specs.Telling.{spelled}
+use Rattle.plain_wiki.specs.Doing.{with_appended}
 use Rattle.wiki_parts.specs.Holding.{Holding}
-
--- the wiki in which the sentence of a request is taken as asserted, for the requests that judge one
-abbrev pub taken_by : State → Request → Option State
-taken_by old (requests.Add article given text) =
-    option_and_then (λ word. option_map (λ place. with_inserted old word place (sentence_with old text Asserted)) (place_for old article given))
-    (word_named old article)
-taken_by old (requests.Edit article place text) = option_map (λ word. with_replaced old word place (sentence_with old text Asserted)) (word_named old article)
-taken_by old (requests.Reassert article place) = option_map (λ word. with_marked old word place Asserted) (word_named old article)
-taken_by old request = None
 
 -- the status that a reply tells of a sentence that was judged
 abbrev pub status_told : Reply → Option Status
 status_told (replies.Add status shown) = Some status
 status_told (replies.Edit status shown) = Some status
 status_told (replies.Reassert status) = Some status
+status_told (replies.Commit article status shown) = Some status
 status_told reply = None
 
--- a new sentence is red for the budget only where the kept interpretation is no model of what is known with it
-abbrev pub SpendsBeyondKept : Holding → Request → Reply → Type 0
-SpendsBeyondKept old request reply =
-    status_told reply ≡ Some RedBudget → IfSome (taken_by old.state request)
-    (λ taken. (claims : List Claim) → Knows taken claims → ¬ IsModel old.interpretation claims)
+-- the kept interpretation is no model of what is known where this is stored
+abbrev pub IsNoModelWith : Holding → Stored → Type 0
+IsNoModelWith old taken = (claims : List Claim) → Knows taken claims → ¬ IsModel old.interpretation claims
+
+-- a sentence that was judged is red for the budget only where the kept interpretation is no model of what is known with it
+abbrev pub SpendsBeyond : Holding → Option Stored → Reply → Type 0
+SpendsBeyond old taken reply = status_told reply ≡ Some RedBudget → IfSome taken (IsNoModelWith old)
+
+-- the same of tokens at the end of a word's article
+abbrev pub SpendsAtEnd : Holding → WordId → List (List ℕ) → Status → Type 0
+SpendsAtEnd old word tokens status = status ≡ RedBudget → IsNoModelWith old (with_appended old.state word tokens Asserted)
 
 -- the names that are told as unknown of the question that the tokens are, are in its class in the kept interpretation
 pub record KeptHasDoubts (old : Holding) (tokens unknown : List (List ℕ)) : Type 0 where
@@ -56,8 +52,8 @@ pub record KeptHasDoubts (old : Holding) (tokens unknown : List (List ℕ)) : Ty
 abbrev pub KeptHasUnknown : Holding → Sentence → SentenceView → Type 0
 KeptHasUnknown old sentence view = MatchBool (is_question sentence.status) (KeptHasDoubts old sentence.tokens view.unknown) (Unit {0})
 
--- so is each question of an article that is told
-abbrev pub KeptHasEachUnknown : Holding → Request → Reply → Type 0
-KeptHasEachUnknown old (requests.Read text) (replies.Read form revision views) =
-    IfSome (article_named old.state text) (λ article. AllZip (KeptHasUnknown old) article.sentences views)
-KeptHasEachUnknown old request reply = Unit {0}
+-- so is each question of the article that a form names and that is told
+abbrev pub KeptHasUnknownIn : Holding → List ℕ → Reply → Type 0
+KeptHasUnknownIn old form (replies.Read told revision views) =
+    IfSome (article_named old.state form) (λ article. AllZip (KeptHasUnknown old) article.sentences views)
+KeptHasUnknownIn old form reply = Unit {0}

@@ -1,21 +1,24 @@
 // Sentences that are added.
-ghost use Rattle.std.specs.Prelude.{◌≡◌, Some, IfOk, IfErr, OnOk, OnErr};
+ghost use Rattle.std.specs.Prelude.{◌≡◌, IsSomeAnd, IfOk, IfErr, OnOk, OnErr};
 ghost use Rattle.derivation_trees.specs.Cutting.{shown};
-ghost use Rattle.wiki_parts.specs.Faults.{IsFault, IsAbsent};
-ghost use Rattle.wiki_parts.specs.Parsing.{tokens_of};
-ghost use Rattle.wiki_parts.specs.Places.{word_named};
+ghost use Rattle.plain_wiki.specs.Causes.{FirstOf, NoneOf};
+ghost use Rattle.plain_wiki.specs.Doing.{AddsSentence, place_for};
+ghost use Rattle.plain_wiki.specs.Parsing.{tokens_of};
+ghost use Rattle.plain_wiki.specs.Places.{article_named};
+ghost use Rattle.wiki_parts.specs.Faults.{IsFault};
+ghost use Rattle.wiki_parts.specs.Spending.{IsCutOff};
+ghost use Rattle.wiki_store.specs.Asking.{against, taken_by};
 ghost use Rattle.wiki_store.specs.Putting.{CanBeMade};
-ghost use Rattle.wiki_store.specs.Spending.{SpendsBeyondKept};
-ghost use Rattle.wiki_store.specs.Step.{Step, Refuses, place_for};
-ghost use Rattle.wiki_store.specs.Unchanged.{KeepsInterpretation};
+ghost use Rattle.wiki_store.specs.Spending.{SpendsBeyond};
 
 use crate::base::Base;
+use crate::causes::{can_change, place_given};
 use crate::putting::Change;
 use articles::Shared;
 use derivation_trees::show;
 use wiki_base::{Memory, Text8, Tokens};
 use wiki_parts::Fault;
-use wiki_talk::{Reply, Request};
+use wiki_talk::{ArticleRequest, Reply};
 
 impl Base {
     // Inserts the sentence of a text at the place that is given, or at the end of the article.
@@ -25,10 +28,12 @@ impl Base {
         given: Option<u32>,
         text: &Text8,
     ) -> Result<Reply, Fault>
-        ensures step { IfOk result (λ reply. Step self.old.state (Request.Add form.now given text.now) reply self.new.state) }
-        ensures interpretation { IfOk result (λ reply. KeepsInterpretation self.old reply self.new) }
-        ensures spent { IfOk result (SpendsBeyondKept self.old (Request.Add form.now given text.now)) }
-        ensures refused { IfErr result (IsFault (Refuses self.old.state (Request.Add form.now given text.now))) }
+        ensures free { OnOk result (NoneOf (against self.old.state form.now (ArticleRequest.Add given text.now))) }
+        ensures does { IfOk result (λ reply. IsSomeAnd (article_named self.old.state form.now)
+            (λ article. AddsSentence (IsCutOff self.old.budget) given text.now article self.old.state reply self.new.state)) }
+        ensures budget { OnOk result (self.new.budget ≡ self.old.budget) }
+        ensures spent { IfOk result (SpendsBeyond self.old (taken_by self.old.state form.now (ArticleRequest.Add given text.now))) }
+        ensures refused { IfErr result (IsFault (FirstOf (against self.old.state form.now (ArticleRequest.Add given text.now)))) }
         ensures kept { OnErr result (self.new ≡ self.old) }
     {
         let change = self.addition(form, given, text)?;
@@ -46,23 +51,22 @@ impl Base {
 
     // The new sentence at its place, if nothing stands against it.
     fn addition(&self, form: &Text8, given: Option<u32>, text: &Text8) -> Result<Change, Fault>
-        ensures named { IfOk result (λ change. word_named self.now.state form.now ≡ Some change.word) }
-        ensures from { IfOk result (λ change. place_for self.now.state form.now given ≡ Some change.from) }
+        ensures from { IfOk result (λ change. IsSomeAnd (article_named self.now.state form.now)
+            (λ article. (article.word ≡ change.word) × (place_for article given ≡ change.from))) }
         ensures to { IfOk result (λ change. change.to ≡ change.from) }
         ensures tokens { IfOk result (λ change. change.tokens ≡ tokens_of self.now.state text.now) }
         ensures can { IfOk result (CanBeMade self.now.state) }
-        ensures free { OnOk result (IsAbsent (Refuses self.now.state (Request.Add form.now given text.now))) }
-        ensures refused { IfErr result (IsFault (Refuses self.now.state (Request.Add form.now given text.now))) }
+        ensures free { OnOk result (NoneOf (against self.now.state form.now (ArticleRequest.Add given text.now))) }
+        ensures refused { IfErr result (IsFault (FirstOf (against self.now.state form.now (ArticleRequest.Add given text.now)))) }
     {
-        let word = self.named(form)?;
-        let article = self.article(word);
-        let at = self.place_given(form, article, given)?;
+        let article = self.article_with(form)?;
+        let at = place_given(article, given)?;
         self.has_room()?;
         let tokens = self.tokens(text)?;
-        self.open(form, article)?;
+        can_change(article)?;
         let sense = self.sense(text, &tokens)?;
         Ok(Change {
-            word,
+            word: article.word,
             from: at,
             to: at,
             tokens: Shared::new(self.alloc, tokens)?,

@@ -1,13 +1,15 @@
 // Tokens that are added as a sentence at the end of an article.
-ghost use Rattle.std.specs.Prelude.{◌≡◌, ◌≤◌, ◌<◌, length, IfOk, OnErr};
+ghost use Rattle.std.specs.Prelude.{◌≡◌, ◌≤◌, ◌<◌, length, IfOk, OnOk, OnErr};
 ghost use Rattle.wiki_base.specs.declared.tokens.TheConstants.{MOST_TOKENS};
 ghost use Rattle.derivation_trees.specs.Sentences.{IsSentence};
 ghost use Rattle.wiki_talk.specs.declared.limits.TheConstants.{MOST_SENTENCES};
 ghost use Rattle.articles.specs.Articles.{CanChange, HasArticle, HasPlace};
 ghost use Rattle.wiki_parts.specs.Found.{meaning_shown};
-ghost use Rattle.wiki_parts.specs.Knowledge.{sentences_in, GetStatus};
-ghost use Rattle.wiki_parts.specs.Meanings.{Means};
-ghost use Rattle.wiki_store.specs.Appending.{end_of, with_appended, SpendsAtEnd};
+ghost use Rattle.plain_wiki.specs.Knowledge.{sentences_in, GetStatus};
+ghost use Rattle.plain_wiki.specs.Meanings.{Means};
+ghost use Rattle.plain_wiki.specs.Doing.{end_of, with_appended};
+ghost use Rattle.wiki_store.specs.Spending.{SpendsAtEnd};
+ghost use Rattle.wiki_parts.specs.Spending.{IsCutOff};
 
 use crate::base::Base;
 use crate::putting::Change;
@@ -24,8 +26,9 @@ impl Base {
         requires room { length (sentences_in self.old.state.articles) < MOST_SENTENCES }
         requires few { length tokens.now ≤ MOST_TOKENS }
         requires sentence { IsSentence self.old.state.grammar self.old.state.words tokens.now }
-        ensures status { IfOk result (GetStatus (with_appended self.old.state word tokens.now Status.Asserted) tokens.now) }
+        ensures status { IfOk result (GetStatus (IsCutOff self.old.budget) (with_appended self.old.state word tokens.now Status.Asserted) tokens.now) }
         ensures after { IfOk result (λ status. self.new.state ≡ with_appended self.old.state word tokens.now status) }
+        ensures budget { OnOk result (self.new.budget ≡ self.old.budget) }
         ensures spent { IfOk result (SpendsAtEnd self.old word tokens.now) }
         ensures memory { OnErr result (self.new ≡ self.old) }
     {

@@ -1,31 +1,26 @@
 // The words and sentences, and what is done to them by a request.
-ghost use Rattle.std.specs.Prelude.{◌≡◌, ◌≤◌, ◌<◌, ◌+◌, ◌++◌, ◌∷◌, [], ℕ, List, None, Err, IfErr, OnOk, length, find, All, IsTrue, IsSome, IfOk, IfSome, IfNone, OnErr, Some, option_copied, option_map};
-ghost use Rattle.wiki_base.specs.declared.tokens.TheConstants.{MOST_TOKENS};
+ghost use Rattle.std.specs.Prelude.{◌≡◌, ◌≤◌, ◌<◌, ◌+◌, ◌++◌, ◌∷◌, [], None, Err, IfErr, OnOk, find, All, IsTrue, IsSome, IfOk, IfSome, IfNone, IsSomeAnd, OnErr, Some, option_map};
 ghost use Rattle.lexicon.specs.declared.words.TheConstants.{LAST_NUMBER};
-ghost use Rattle.wiki_talk.specs.declared.refusals.Refusal.{Refusal as TheRefusal};
-ghost use Rattle.wiki_parts.specs.Words.{word_refusal, forms_given};
-ghost use Rattle.wiki_parts.specs.Faults.{IsCause, Tells};
+ghost use Rattle.plain_wiki.specs.Words.{word_refusal, forms_given};
+ghost use Rattle.wiki_parts.specs.Faults.{IsCause};
 ghost use Rattle.articles.specs.Articles.{new_article};
 ghost use Rattle.lexicon.specs.Words.{with_word, add_refusal};
 
 use crate::keeping::Keeping;
-use crate::remembered::Remembered;
 use articles::Articles;
 use codeco_checked::CheckedGrammar;
-use derivations::{Cut, cut};
-use lexicon::{Forms, Kind, Lexicon, MOST_WORDS};
-use lists::Copied;
+use lexicon::{Kind, Lexicon, MOST_WORDS};
 use std::alloc::Global;
 use std::marker::Model;
-use wiki_base::{Memory, Place, Text8, Tokens, WordId};
+use wiki_base::{Memory, Place, Text8, WordId};
 use wiki_parts::{
     Fault, Senses, add_word, first_model, first_use, is_faithful, least, no_sentence, told_code,
-    told_text, told_word, told_words, too_many_tokens,
+    told_text, told_word, told_words,
 };
-use wiki_talk::{Refusal, Reply, Request};
+use wiki_talk::{Refusal, Reply, WikiRequest, WordRequest};
 
-// The words and sentences of a wiki. They are seen as its state, which is the grammar, the budget of a search, the live words and their articles, and the
-// interpretation that it keeps.
+// The words and sentences of a wiki. They are seen as what is stored, which is the grammar, the live words and their articles, the budget of
+// a search, and the interpretation that is kept.
 #[derive(Drop)]
 pub(crate) struct Base {
     pub(crate) alloc: Global,
@@ -51,30 +46,28 @@ impl Model for Base {
     ghost use Rattle.wiki_parts.specs.Kept.{IsKeeping};
 
     ghost view = { λ w. record {
-      state = record { grammar = w.grammar; budget = w.budget; words = w.lexicon; articles = w.articles };
+      state = record { grammar = w.grammar; words = w.lexicon; articles = w.articles };
+      budget = w.budget;
       interpretation = kept_interp w.kept;
     } };
 
-    ghost invariant = { λ w. IsKeeping (record { grammar = w.grammar; budget = w.budget; words = w.lexicon; articles = w.articles }) w.senses.items w.kept
+    ghost invariant = { λ w. IsKeeping (record { grammar = w.grammar; words = w.lexicon; articles = w.articles }) w.senses.items w.kept
         × (w.last ≡ w.lexicon.last) };
 }
 
 impl Base {
     ghost use Rattle.codeco_checked.specs.Sound.{is_labelled};
     ghost use Rattle.wiki_parts.specs.Holding.{first_holding, IsKept};
-    ghost use Rattle.wiki_store.specs.Remembered.{IsRemembered};
-    ghost use Rattle.wiki_store.specs.Spending.{SpendsBeyondKept, KeptHasEachUnknown};
-    ghost use Rattle.wiki_parts.specs.Parsing.{tokens_of};
-    ghost use Rattle.wiki_store.specs.Step.{Step, Refuses, asks_store, only_tells};
-    ghost use Rattle.wiki_store.specs.Unchanged.{KeepsInterpretation};
+    ghost use Rattle.plain_wiki.specs.Doing.{AddsWord, TellsWord, TellsWords, TellsCode};
+    ghost use Rattle.plain_wiki.specs.Against.{against_wiki, against_word, against_form};
     ghost use Rattle.wiki_parts.specs.Faults.{IsFault};
     ghost use Rattle.articles.specs.Articles.{HasArticle};
     ghost use Rattle.articles.specs.Places.{IsPlaceOf};
     ghost use Rattle.lexicon.specs.declared.kinds.Forms.{Forms as TheForms};
     ghost use Rattle.lexicon.specs.Words.{forms_of};
-    ghost use Rattle.wiki_parts.specs.Places.{all_placed, told_place};
-    ghost use Rattle.wiki_parts.specs.Refusing.{uses_word, TellsPlace};
-    ghost use Rattle.wiki_parts.specs.Words.{word_with};
+    ghost use Rattle.plain_wiki.specs.Places.{word_with, all_placed, told_place};
+    ghost use Rattle.plain_wiki.specs.Causes.{FirstOf, NoneOf, uses_word};
+    ghost use Rattle.wiki_store.specs.Rewording.{TellsPlace};
 
     // A base without words, over a grammar in which each rule has a label. A search may take `budget` steps.
     pub(crate) fn new(alloc: Global, grammar: CheckedGrammar, budget: u64) -> Result<Base, Memory>
@@ -105,86 +98,17 @@ impl Base {
         let _ = self.kept.interp();
     }
 
-    // Does one request that changes nothing, or refuses it. The answers that it finds are remembered.
-    pub(crate) fn tell(
-        &self,
-        remembered: &mut Remembered,
-        request: &Request,
-    ) -> Result<Reply, Memory>
-        requires tells { IsTrue (only_tells request.now) }
-        requires remembered { All (IsRemembered self.now) remembered.old.rows }
-        ensures step { IfOk result (λ reply. Step self.now.state request.now reply self.now.state) }
-        ensures unknown { IfOk result (KeptHasEachUnknown self.now request.now) }
-        ensures remembered { All (IsRemembered self.now) remembered.new.rows }
-    {
-        match request {
-            Request::Find { word } => self.find(word),
-            Request::Words => self.words(),
-            Request::Parse { text } => self.parse(text),
-            Request::Read { article } => told(self.read(remembered, article)),
-            Request::Axioms { article, at } => told(self.axioms(article, *at)),
-            Request::Word { .. }
-            | Request::Reword { .. }
-            | Request::Unword { .. }
-            | Request::Add { .. }
-            | Request::Edit { .. }
-            | Request::Remove { .. }
-            | Request::Retract { .. }
-            | Request::Reassert { .. }
-            | Request::Grammar { .. }
-            | Request::Begin { .. }
-            | Request::Put { .. }
-            | Request::Back { .. }
-            | Request::Menu { .. }
-            | Request::Commit { .. }
-            | Request::Refresh { .. }
-            | Request::Drop { .. } => unreachable!(),
-        }
-    }
-
-    // Does one request of the others, or refuses it.
-    pub(crate) fn change(&mut self, request: &Request) -> Result<Reply, Memory>
-        requires asks { IsTrue (asks_store request.now) }
-        requires changes { ¬ IsTrue (only_tells request.now) }
-        ensures step { IfOk result (λ reply. Step self.old.state request.now reply self.new.state) }
-        ensures spent { IfOk result (SpendsBeyondKept self.old request.now) }
-        ensures unknown { IfOk result (KeptHasEachUnknown self.old request.now) }
-        ensures interpretation { IfOk result (λ reply. KeepsInterpretation self.old reply self.new) }
-        ensures memory { OnErr result (self.new ≡ self.old) }
-    {
-        match request {
-            Request::Word { kind, forms } => self.add(*kind, forms.as_slice()),
-            Request::Reword { word, forms } => told(self.reword(word, forms.as_slice())),
-            Request::Unword { word } => told(self.unword(word)),
-            Request::Add { article, at, text } => told(self.add_sentence(article, *at, text)),
-            Request::Edit { article, at, text } => told(self.edit(article, *at, text)),
-            Request::Remove { article, at } => told(self.remove(article, *at)),
-            Request::Retract { article, at } => told(self.retract(article, *at)),
-            Request::Reassert { article, at } => told(self.reassert(article, *at)),
-            Request::Grammar { text } => told(self.reground(text)),
-            Request::Find { .. }
-            | Request::Words
-            | Request::Parse { .. }
-            | Request::Read { .. }
-            | Request::Axioms { .. }
-            | Request::Begin { .. }
-            | Request::Put { .. }
-            | Request::Back { .. }
-            | Request::Menu { .. }
-            | Request::Commit { .. }
-            | Request::Refresh { .. }
-            | Request::Drop { .. } => unreachable!(),
-        }
-    }
-
     // Adds a word, with an empty article.
-    fn add(&mut self, kind: Kind, forms: &[Text8]) -> Result<Reply, Memory>
-        ensures step { IfOk result (λ reply. Step self.old.state (Request.Word kind forms.now) reply self.new.state) }
-        ensures interpretation { IfOk result (λ reply. KeepsInterpretation self.old reply self.new) }
-        ensures memory { OnErr result (self.new ≡ self.old) }
+    pub(crate) fn add(&mut self, kind: Kind, forms: &[Text8]) -> Result<Reply, Fault>
+        ensures free { OnOk result (NoneOf (against_wiki self.old.state (WikiRequest.Word kind forms.now))) }
+        ensures adds { IfOk result (λ reply. AddsWord kind forms.now self.old.state reply self.new.state) }
+        ensures budget { OnOk result (self.new.budget ≡ self.old.budget) }
+        ensures interpretation { OnOk result (self.new.interpretation ≡ self.old.interpretation) }
+        ensures refused { IfErr result (IsFault (FirstOf (against_wiki self.old.state (WikiRequest.Word kind forms.now)))) }
+        ensures kept { OnErr result (self.new ≡ self.old) }
     {
         let Some(number) = self.next_number() else {
-            return refuse_word(self.alloc, &mut self.lexicon, kind, forms);
+            return Err(refusal_of_word(self.alloc, &mut self.lexicon, kind, forms));
         };
         let word = WordId(number);
         self.senses.push(Senses::new(self.alloc))?;
@@ -202,7 +126,7 @@ impl Base {
             }
             Err(fault) => {
                 let _ = self.senses.pop();
-                refused(fault)
+                Err(fault)
             }
         }
     }
@@ -253,27 +177,19 @@ impl Base {
     }
 
     // Tells the word that has this form.
-    fn find(&self, word: &Text8) -> Result<Reply, Memory>
-        ensures { IfOk result (λ reply. Step self.now.state (Request.Find word.now) reply self.now.state) }
+    pub(crate) fn find(&self, form: &Text8) -> Result<Reply, Fault>
+        ensures tells { IfOk result (λ reply. IsSomeAnd (word_with self.now.state form.now) (λ word. TellsWord word reply)) }
+        ensures refused { IfErr result (IsFault (FirstOf (against_form self.now.state form.now (against_word self.now.state WordRequest.Find)))) }
     {
-        match self.found(word.as_str()) {
-            Some(forms) => Ok(Reply::Find {
-                word: told_word(self.alloc, forms)?,
-            }),
-            None => Ok(Reply::Refused(Refusal::NoWord { text: word.copy()? })),
-        }
-    }
-
-    // The forms of the word that has this one.
-    fn found(&self, form: &str) -> Option<&Forms>
-        ensures { option_copied result ≡ word_with self.now.state.words form.now }
-    {
-        self.lexicon.find(form).and_then(|id| self.lexicon.word(id))
+        let word = self.named(form)?;
+        Ok(Reply::Find {
+            word: told_word(self.alloc, self.forms(word))?,
+        })
     }
 
     // Tells all words.
-    fn words(&self) -> Result<Reply, Memory>
-        ensures { IfOk result (λ reply. Step self.now.state Request.Words reply self.now.state) }
+    pub(crate) fn words(&self) -> Result<Reply, Memory>
+        ensures { IfOk result (TellsWords self.now.state) }
     {
         Ok(Reply::Words {
             words: told_words(self.alloc, &self.lexicon)?,
@@ -281,30 +197,21 @@ impl Base {
     }
 
     // Tells the code of a text.
-    fn parse(&self, text: &Text8) -> Result<Reply, Memory>
-        ensures { IfOk result (λ reply. Step self.now.state (Request.Parse text.now) reply self.now.state) }
+    pub(crate) fn parse(&self, text: &Text8) -> Result<Reply, Fault>
+        ensures free { OnOk result (NoneOf (against_wiki self.now.state (WikiRequest.Parse text.now))) }
+        ensures tells { IfOk result (TellsCode text.now self.now.state) }
+        ensures refused { IfErr result (IsFault (FirstOf (against_wiki self.now.state (WikiRequest.Parse text.now)))) }
     {
-        match cut(self.alloc, self.grammar.grammar(), text.as_str())? {
-            Cut::TooMany => Ok(Reply::Refused(too_many_tokens())),
-            Cut::Tokens(tokens) => self.parse_tokens(&tokens),
-        }
-    }
-
-    // Tells the code of tokens.
-    fn parse_tokens(&self, tokens: &Tokens) -> Result<Reply, Memory>
-        requires { length tokens.now ≤ MOST_TOKENS }
-        ensures { IfOk result (λ reply. (text : List ℕ) → tokens_of self.now.state text ≡ tokens.now
-            → Step self.now.state (Request.Parse text) reply self.now.state) }
-    {
-        match least(self.alloc, &self.grammar, &self.lexicon, tokens)? {
+        let tokens = self.tokens(text)?;
+        match least(self.alloc, &self.grammar, &self.lexicon, &tokens)? {
             Some(least) => Ok(Reply::Parse {
                 code: told_code(self.alloc, &least)?,
             }),
-            None => Ok(Reply::Refused(no_sentence(
+            None => Err(Fault::Refused(no_sentence(
                 self.alloc,
                 &self.grammar,
                 &self.lexicon,
-                tokens,
+                &tokens,
             )?)),
         }
     }
@@ -338,42 +245,14 @@ fn enter_word(
     }
 }
 
-// The reply to a request that is done or refused.
-fn told(done: Result<Reply, Fault>) -> Result<Reply, Memory>
-    ensures told { IfOk result (λ reply. Tells done reply) }
-    ensures memory { OnErr result (done ≡ Err Fault.Memory) }
-{
-    match done {
-        Ok(reply) => Ok(reply),
-        Err(fault) => refused(fault),
-    }
-}
-
-// The reply that tells why a request changes nothing.
-fn refused(fault: Fault) -> Result<Reply, Memory>
-    ensures told { IfOk result (λ reply. (refusal : TheRefusal) × (fault ≡ Fault.Refused refusal) × (reply ≡ Reply.Refused refusal)) }
-    ensures memory { OnErr result (fault ≡ Fault.Memory) }
-{
-    match fault {
-        Fault::Refused(refusal) => Ok(Reply::Refused(refusal)),
-        Fault::Memory => Err(Memory),
-    }
-}
-
-// Refuses a word where all numbers are given.
-fn refuse_word(
-    alloc: Global,
-    lexicon: &mut Lexicon,
-    kind: Kind,
-    forms: &[Text8],
-) -> Result<Reply, Memory>
+// Why a word is refused where all numbers are given.
+fn refusal_of_word(alloc: Global, lexicon: &mut Lexicon, kind: Kind, forms: &[Text8]) -> Fault
     requires { lexicon.old.last ≡ LAST_NUMBER }
-    ensures refused { IfOk result (λ reply. (refusal : TheRefusal) × (word_refusal lexicon.old kind forms.now ≡ Some refusal)
-        × (reply ≡ Reply.Refused refusal)) }
+    ensures refused { IsCause (word_refusal lexicon.old kind forms.now) result }
     ensures words { lexicon.new ≡ lexicon.old }
 {
     match add_word(alloc, lexicon, kind, forms) {
         Ok(()) => unreachable!(),
-        Err(fault) => refused(fault),
+        Err(fault) => fault,
     }
 }

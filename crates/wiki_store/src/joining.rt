@@ -6,7 +6,7 @@ ghost use Rattle.logic_terms.specs.Shown.{claims_of};
 ghost use Rattle.owl_eval.specs.Checked.{kept_interp, kept_claims};
 ghost use Rattle.wiki_parts.specs.Found.{meaning_shown};
 ghost use Rattle.wiki_parts.specs.Kept.{stated_by, meanings_in, known_of, known_in};
-ghost use Rattle.wiki_parts.specs.Knowledge.{is_asserted};
+ghost use Rattle.plain_wiki.specs.Knowledge.{is_asserted};
 ghost use Rattle.wiki_store.specs.Putting.{IsThere, known_with, known_beside, IsJoined};
 ghost use Rattle.wiki_store.specs.Settled.{IsTrueIn};
 

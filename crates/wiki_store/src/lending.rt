@@ -4,8 +4,8 @@ ghost use Rattle.wiki_talk.specs.declared.limits.TheConstants.{MOST_SENTENCES as
 ghost use Rattle.articles.specs.Articles.{article_of};
 ghost use Rattle.logic_terms.specs.Shown.{claims_of};
 ghost use Rattle.wiki_parts.specs.Kept.{MeanInEach};
-ghost use Rattle.wiki_parts.specs.Knowledge.{sentences_in, Knows};
-ghost use Rattle.wiki_parts.specs.State.{IsSound};
+ghost use Rattle.plain_wiki.specs.Knowledge.{sentences_in, Knows};
+ghost use Rattle.wiki_parts.specs.Sound.{IsSound};
 
 use crate::base::Base;
 use articles::Article;

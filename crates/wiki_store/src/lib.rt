@@ -1,4 +1,4 @@
-//! The words and sentences of a wiki: their state, and one step for each request on them.
+//! The words and sentences of a wiki, with the model that is kept: what is asked of them, each in a call of its own.
 #![tactic(auto)]
 
 mod adding;

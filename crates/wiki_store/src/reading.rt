@@ -1,5 +1,5 @@
 // An article as it is told, with the names that answer its questions as of now.
-ghost use Rattle.std.specs.Prelude.{◌≡◌, Bool, true, false, All, Some, IfOk, IfErr, IfSome, IsSome};
+ghost use Rattle.std.specs.Prelude.{◌≡◌, Bool, true, false, All, Some, IfOk, IfErr, IfSome, IsSome, IsSomeAnd, OnOk};
 ghost use Rattle.std.specs.List.{AllZip};
 ghost use Rattle.articles.specs.declared.article.Article.{Article as TheArticle};
 ghost use Rattle.articles.specs.Articles.{article_of, HasArticle};
@@ -11,13 +11,17 @@ ghost use Rattle.wiki_parts.specs.Faults.{IsFault};
 ghost use Rattle.wiki_parts.specs.Found.{meaning_shown};
 ghost use Rattle.wiki_parts.specs.Holding.{FitsMeaning};
 ghost use Rattle.wiki_parts.specs.Kept.{MeanEach, meanings_in};
-ghost use Rattle.wiki_parts.specs.Knowledge.{live_names};
-ghost use Rattle.wiki_parts.specs.Meanings.{asking, Means};
-ghost use Rattle.wiki_parts.specs.Telling.{TellsSentence, TellsSentences};
+ghost use Rattle.plain_wiki.specs.Knowledge.{live_names};
+ghost use Rattle.plain_wiki.specs.Meanings.{asking, Means};
+ghost use Rattle.plain_wiki.specs.Telling.{TellsSentence, TellsSentences};
 ghost use Rattle.wiki_store.specs.Remembered.{AreAnswers, IsRemembered};
 ghost use Rattle.wiki_store.specs.Settled.{AbsorbsKnown};
-ghost use Rattle.wiki_store.specs.Spending.{KeptHasUnknown, KeptHasEachUnknown};
-ghost use Rattle.wiki_store.specs.Step.{Step, Refuses};
+ghost use Rattle.wiki_store.specs.Asking.{against};
+ghost use Rattle.wiki_store.specs.Spending.{KeptHasUnknown, KeptHasUnknownIn};
+ghost use Rattle.plain_wiki.specs.Places.{article_named};
+ghost use Rattle.plain_wiki.specs.Causes.{FirstOf, NoneOf};
+ghost use Rattle.plain_wiki.specs.Doing.{TellsArticle};
+ghost use Rattle.wiki_parts.specs.Spending.{IsCutOff};
 
 use crate::base::Base;
 use crate::remembered::Remembered;
@@ -30,19 +34,21 @@ use lexicon::MOST_WORDS;
 use logic_terms::{Class, Names};
 use wiki_base::{Memory, Text8, Text8s, WordId};
 use wiki_parts::{Fault, Sense, Senses, answers_of, live_names, spelled, told_text};
-use wiki_talk::{Reply, Request, SentenceView, SentenceViews};
+use wiki_talk::{ArticleRequest, Reply, SentenceView, SentenceViews};
 
 impl Base {
     // Tells the article of a word, with the answers to its questions.
     pub(crate) fn read(&self, remembered: &mut Remembered, form: &Text8) -> Result<Reply, Fault>
         requires { All (IsRemembered self.now) remembered.old.rows }
-        ensures step { IfOk result (λ reply. Step self.now.state (Request.Read form.now) reply self.now.state) }
-        ensures unknown { IfOk result (KeptHasEachUnknown self.now (Request.Read form.now)) }
-        ensures refused { IfErr result (IsFault (Refuses self.now.state (Request.Read form.now))) }
+        ensures free { OnOk result (NoneOf (against self.now.state form.now ArticleRequest.Read)) }
+        ensures tells { IfOk result (λ reply. IsSomeAnd (article_named self.now.state form.now)
+            (λ article. TellsArticle (IsCutOff self.now.budget) self.now.state article reply)) }
+        ensures unknown { IfOk result (KeptHasUnknownIn self.now form.now) }
+        ensures refused { IfErr result (IsFault (FirstOf (against self.now.state form.now ArticleRequest.Read))) }
         ensures remembered { All (IsRemembered self.now) remembered.new.rows }
     {
-        let word = self.named(form)?;
-        let article = self.article(word);
+        let article = self.article_with(form)?;
+        let word = article.word;
         let senses = self.senses_of(word);
         let sentences = self.views(remembered, article.sentences.as_slice(), senses.as_slice())?;
         Ok(Reply::Read {
@@ -83,7 +89,7 @@ impl Base {
     ) -> Result<SentenceViews, Memory>
         requires mean { MeanEach self.now.state.grammar self.now.state.words sentences.now (meanings_in senses.now) }
         requires remembered { All (IsRemembered self.now) remembered.old.rows }
-        ensures tells { IfOk result (TellsSentences self.now.state sentences.now) }
+        ensures tells { IfOk result (TellsSentences (IsCutOff self.now.budget) self.now.state sentences.now) }
         ensures unknown { IfOk result (AllZip (KeptHasUnknown self.now) sentences.now) }
         ensures remembered { All (IsRemembered self.now) remembered.new.rows }
     {
@@ -137,7 +143,7 @@ impl Base {
         requires means { Means self.now.state.grammar self.now.state.words sentence.now.tokens (meaning_shown sense.now) }
         requires fits { FitsMeaning sentence.now.status (meaning_shown sense.now) }
         requires remembered { All (IsRemembered self.now) remembered.old.rows }
-        ensures tells { IfOk result (TellsSentence self.now.state sentence.now) }
+        ensures tells { IfOk result (TellsSentence (IsCutOff self.now.budget) self.now.state sentence.now) }
         ensures unknown { IfOk result (KeptHasUnknown self.now sentence.now) }
         ensures remembered { All (IsRemembered self.now) remembered.new.rows }
     {
@@ -163,7 +169,7 @@ impl Base {
         requires asks { is_question sentence.now.status ≡ true }
         requires means { Means self.now.state.grammar self.now.state.words sentence.now.tokens (asking (concept_of class.now)) }
         requires remembered { All (IsRemembered self.now) remembered.old.rows }
-        ensures tells { IfOk result (TellsSentence self.now.state sentence.now) }
+        ensures tells { IfOk result (TellsSentence (IsCutOff self.now.budget) self.now.state sentence.now) }
         ensures unknown { IfOk result (KeptHasUnknown self.now sentence.now) }
         ensures remembered { All (IsRemembered self.now) remembered.new.rows }
     {
@@ -211,7 +217,7 @@ impl Base {
         requires asks { is_question sentence.now.status ≡ true }
         requires means { Means self.now.state.grammar self.now.state.words sentence.now.tokens (asking (concept_of class.now)) }
         requires answers { AreAnswers self.now (concept_of class.now) answers.now.yes answers.now.unknown }
-        ensures tells { IfOk result (TellsSentence self.now.state sentence.now) }
+        ensures tells { IfOk result (TellsSentence (IsCutOff self.now.budget) self.now.state sentence.now) }
         ensures unknown { IfOk result (KeptHasUnknown self.now sentence.now) }
     {
         let grammar = self.grammar.grammar();
@@ -226,7 +232,7 @@ impl Base {
     // Any other sentence as it is told.
     fn plain_view(&self, sentence: &Sentence) -> Result<SentenceView, Memory>
         requires { is_question sentence.now.status ≡ false }
-        ensures tells { IfOk result (TellsSentence self.now.state sentence.now) }
+        ensures tells { IfOk result (TellsSentence (IsCutOff self.now.budget) self.now.state sentence.now) }
         ensures unknown { IfOk result (KeptHasUnknown self.now sentence.now) }
     {
         Ok(SentenceView {

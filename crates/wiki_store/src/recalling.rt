@@ -4,7 +4,7 @@ ghost use Rattle.articles.specs.Articles.{article_of, CanChange};
 ghost use Rattle.logic_terms.specs.Reading.{IsModel};
 ghost use Rattle.owl_eval.specs.Checked.{kept_interp, kept_claims};
 ghost use Rattle.wiki_parts.specs.Kept.{known_of, known_in, meanings_in};
-ghost use Rattle.wiki_parts.specs.Knowledge.{Knows};
+ghost use Rattle.plain_wiki.specs.Knowledge.{Knows};
 ghost use Rattle.wiki_store.specs.PuttingBack.{with_sentences, CanBePut, put_back, IsOfArticle};
 
 use crate::base::Base;

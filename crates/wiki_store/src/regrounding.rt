@@ -1,10 +1,11 @@
 // Another grammar, by which each sentence keeps its meaning.
-ghost use Rattle.std.specs.Prelude.{◌≡◌, IfOk, IfErr, OnErr, IsTrue};
+ghost use Rattle.std.specs.Prelude.{◌≡◌, IfOk, IfErr, OnOk, IsTrue};
 ghost use Rattle.codeco_checked.specs.Sound.{is_labelled};
 ghost use Rattle.wiki_parts.specs.Faults.{IsFault};
 ghost use Rattle.wiki_store.specs.Rewording.{KeepsSentences};
-ghost use Rattle.wiki_store.specs.Step.{Step, Refuses};
-ghost use Rattle.wiki_store.specs.Unchanged.{KeepsInterpretation};
+ghost use Rattle.plain_wiki.specs.Against.{against_wiki};
+ghost use Rattle.plain_wiki.specs.Causes.{FirstOf, NoneOf};
+ghost use Rattle.plain_wiki.specs.Doing.{TakesGrammar};
 
 use crate::base::Base;
 use codeco_checked::CheckedGrammar;
@@ -12,18 +13,18 @@ use lexicon::Lexicon;
 use lists::Copied;
 use wiki_base::Text8;
 use wiki_parts::{Fault, grammar_read, reground};
-use wiki_talk::{Reply, Request};
+use wiki_talk::{Reply, WikiRequest};
 
 impl Base {
     // The grammar of a text, and the words beside its terminals, if each sentence keeps its meaning by them. Refused are, in this
     // order, a text that is no grammar, rules without labels, a grammar with a form of a live word, and one by which a sentence
     // has no derivation, or another meaning.
     pub(crate) fn regrounding(&self, text: &Text8) -> Result<(CheckedGrammar, Lexicon), Fault>
-        ensures step { IfOk result (λ made. Step self.now.state (Request.Grammar text.now) Reply.Grammar
-            (record self.now.state { grammar = made.0; words = made.1 })) }
+        ensures free { OnOk result (NoneOf (against_wiki self.now.state (WikiRequest.Grammar text.now))) }
+        ensures takes { IfOk result (λ made. TakesGrammar text.now self.now.state Reply.Grammar (record self.now.state { grammar = made.0; words = made.1 })) }
         ensures labelled { IfOk result (λ made. IsTrue (is_labelled made.0)) }
         ensures keeps { IfOk result (λ made. KeepsSentences self.now.state made.0 made.1) }
-        ensures refused { IfErr result (IsFault (Refuses self.now.state (Request.Grammar text.now))) }
+        ensures refused { IfErr result (IsFault (FirstOf (against_wiki self.now.state (WikiRequest.Grammar text.now)))) }
     {
         let grammar = grammar_read(self.alloc, text)?;
         let mut lexicon = self.lexicon.copy()?;
@@ -40,17 +41,5 @@ impl Base {
     {
         self.grammar = grammar;
         self.lexicon = lexicon;
-    }
-
-    // Puts another grammar in place of the wiki's.
-    pub(crate) fn reground(&mut self, text: &Text8) -> Result<Reply, Fault>
-        ensures step { IfOk result (λ reply. Step self.old.state (Request.Grammar text.now) reply self.new.state) }
-        ensures interpretation { IfOk result (λ reply. KeepsInterpretation self.old reply self.new) }
-        ensures refused { IfErr result (IsFault (Refuses self.old.state (Request.Grammar text.now))) }
-        ensures kept { OnErr result (self.new ≡ self.old) }
-    {
-        let (grammar, lexicon) = self.regrounding(text)?;
-        self.regrounded(grammar, lexicon);
-        Ok(Reply::Grammar)
     }
 }

@@ -1,5 +1,5 @@
 // Other forms for a word, by which each sentence keeps its meaning.
-ghost use Rattle.std.specs.Prelude.{◌≡◌, ◌≤◌, None, Some, IfOk, IfErr, OnOk, OnErr, IsSome, IsTrue, All, MatchBool, length, not, option_copied, false};
+ghost use Rattle.std.specs.Prelude.{◌≡◌, ◌≤◌, None, Some, IfOk, IfErr, OnOk, IsSome, IsSomeAnd, IsTrue, All, MatchBool, length, not, option_copied, false};
 ghost use Rattle.std.specs.List.{list_any};
 ghost use Rattle.std.specs.Option.{option_map_or};
 ghost use Rattle.codeco_terms.specs.GrammarParts.{GrammarParts};
@@ -12,14 +12,14 @@ ghost use Rattle.wiki_talk.specs.declared.limits.TheConstants.{MOST_SENTENCES as
 ghost use Rattle.wiki_parts.specs.Faults.{IsCause, IsFault};
 ghost use Rattle.wiki_parts.specs.Found.{meaning_shown};
 ghost use Rattle.wiki_parts.specs.Kept.{MeanInEach, MeanEach, meanings_in};
-ghost use Rattle.wiki_parts.specs.Knowledge.{sentences_in};
-ghost use Rattle.wiki_parts.specs.Meanings.{Means};
-ghost use Rattle.wiki_parts.specs.Places.{all_placed, placed_in};
-ghost use Rattle.wiki_parts.specs.Refusing.{KeepsMeaning, reword_cause, TellsPlace};
-ghost use Rattle.wiki_parts.specs.Words.{forms_given, lexicon_refusal, taken_refusal};
-ghost use Rattle.wiki_store.specs.Rewording.{KeepsSentences, PassesOthers, FindsPlace, TellsBroken};
-ghost use Rattle.wiki_store.specs.Step.{Step, Refuses};
-ghost use Rattle.wiki_store.specs.Unchanged.{KeepsInterpretation};
+ghost use Rattle.plain_wiki.specs.Knowledge.{sentences_in};
+ghost use Rattle.plain_wiki.specs.Meanings.{Means};
+ghost use Rattle.plain_wiki.specs.Places.{word_with, all_placed, placed_in};
+ghost use Rattle.plain_wiki.specs.Causes.{FirstOf, NoneOf, KeepsMeaning, reword_cause, breaks_sentence};
+ghost use Rattle.plain_wiki.specs.Words.{forms_given, lexicon_refusal, taken_refusal};
+ghost use Rattle.wiki_store.specs.Rewording.{KeepsSentences, PassesOthers, FindsPlace, TellsPlace};
+ghost use Rattle.plain_wiki.specs.Against.{against_word, against_form};
+ghost use Rattle.plain_wiki.specs.Doing.{RewordsWord};
 
 use crate::base::Base;
 use crate::sameness::same_sense;
@@ -30,17 +30,18 @@ use lists::Copied;
 use std::alloc::Global;
 use wiki_base::{Memory, Place, Text, Text8, WordId};
 use wiki_parts::{Fault, Sense, Senses, forms_given, has_form, sense_of, texts_read, told_text};
-use wiki_talk::{Refusal, Reply, Request};
+use wiki_talk::{Refusal, Reply, WordRequest};
 
 impl Base {
     // The words with other forms for the one that has this form, if each sentence keeps its meaning by them. Refused are, in
     // this order, a form that no word has, texts that can't be the forms of a word of its kind beside the others, and forms
     // by which a sentence has no derivation, or another meaning.
     pub(crate) fn rewording(&self, form: &Text8, texts: &[Text8]) -> Result<Lexicon, Fault>
-        ensures step { IfOk result (λ lexicon. Step self.now.state (Request.Reword form.now texts.now) Reply.Reword
-            (record self.now.state { words = lexicon })) }
+        ensures free { OnOk result (NoneOf (against_form self.now.state form.now (against_word self.now.state (WordRequest.Reword texts.now)))) }
+        ensures rewords { IfOk result (λ lexicon. IsSomeAnd (word_with self.now.state form.now)
+            (λ word. RewordsWord word texts.now self.now.state Reply.Reword (record self.now.state { words = lexicon }))) }
         ensures keeps { IfOk result (KeepsSentences self.now.state self.now.state.grammar) }
-        ensures refused { IfErr result (IsFault (Refuses self.now.state (Request.Reword form.now texts.now))) }
+        ensures refused { IfErr result (IsFault (FirstOf (against_form self.now.state form.now (against_word self.now.state (WordRequest.Reword texts.now))))) }
     {
         let word = self.named(form)?;
         let old = self.forms(word);
@@ -58,20 +59,8 @@ impl Base {
         self.lexicon = lexicon;
     }
 
-    // Gives a word other forms.
-    pub(crate) fn reword(&mut self, form: &Text8, texts: &[Text8]) -> Result<Reply, Fault>
-        ensures step { IfOk result (λ reply. Step self.old.state (Request.Reword form.now texts.now) reply self.new.state) }
-        ensures interpretation { IfOk result (λ reply. KeepsInterpretation self.old reply self.new) }
-        ensures refused { IfErr result (IsFault (Refuses self.old.state (Request.Reword form.now texts.now))) }
-        ensures kept { OnErr result (self.new ≡ self.old) }
-    {
-        let lexicon = self.rewording(form, texts)?;
-        self.reworded(lexicon);
-        Ok(Reply::Reword)
-    }
-
     // The forms of a live word.
-    fn forms(&self, word: WordId) -> &Forms
+    pub(crate) fn forms(&self, word: WordId) -> &Forms
         requires { IsSome (forms_of self.now.state.words.live word) }
         ensures { forms_of self.now.state.words.live word ≡ Some result.now }
     {
@@ -92,7 +81,7 @@ impl Base {
         requires others { PassesOthers self.now.state.grammar self.now.state.words grammar.now lexicon.now (option_copied forms) }
         ensures keep { OnOk result (All (λ placed. KeepsMeaning self.now.state.grammar self.now.state.words grammar.now lexicon.now placed.sentence.tokens)
             (all_placed self.now.state.articles)) }
-        ensures refused { IfErr result (IsFault (TellsBroken self.now.state grammar.now lexicon.now)) }
+        ensures refused { IfErr result (IsFault (breaks_sentence self.now.state grammar.now lexicon.now)) }
     {
         let found = first_broken(
             self.alloc,

@@ -9,7 +9,7 @@ ghost use Rattle.owl_eval.specs.Checked.{kept_interp, kept_claims};
 ghost use Rattle.wiki_parts.specs.Found.{meaning_shown};
 ghost use Rattle.wiki_parts.specs.Judgements.{status_in, model_in};
 ghost use Rattle.wiki_parts.specs.Kept.{stated_by, Stands};
-ghost use Rattle.wiki_parts.specs.Knowledge.{is_asserted, live_names};
+ghost use Rattle.plain_wiki.specs.Knowledge.{is_asserted, live_names};
 ghost use Rattle.wiki_store.specs.Putting.{IsThere, known_with, known_beside};
 
 use crate::joining::{Stretch, span_of};

@@ -16,5 +16,7 @@ pub use refusals::{BAD_REQUEST, Refusal, Title};
 pub use replies::{
     Meant, MenuView, Numbers, Reply, SentenceView, SentenceViews, WordView, WordViews,
 };
-pub use requests::{LineRequest, Request};
+pub use requests::{
+    ArticleRequest, LineRequest, Request, SessionRequest, WikiRequest, WordRequest,
+};
 pub use statuses::Status;

@@ -103,11 +103,11 @@ pub enum Reply {
         meant: Meant,
     },
     /// The number of the session that was opened.
-    Begin {
+    Open {
         session: u32,
     },
     /// How many tokens the session has now.
-    Put {
+    Type {
         tokens: u32,
     },
     /// How many tokens the session has now.

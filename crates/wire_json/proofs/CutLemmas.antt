@@ -23,6 +23,10 @@ use Rattle.lexicon.specs.declared.words.TheConstants.{LAST_NUMBER}
 use Rattle.wiki_io.specs.declared.limits.TheConstants.{MAX_LINE}
 use Rattle.wiki_talk.specs.declared.requests.Request.{Request}
 use Rattle.wiki_talk.specs.declared.requests.Request.TheVariants as requests
+use Rattle.wiki_talk.specs.declared.requests.WikiRequest.TheVariants as of_wiki
+use Rattle.wiki_talk.specs.declared.requests.WordRequest.TheVariants as of_word
+use Rattle.wiki_talk.specs.declared.requests.ArticleRequest.TheVariants as of_article
+use Rattle.wiki_talk.specs.declared.requests.SessionRequest.TheVariants as of_session
 use Rattle.wire_json.specs.Values.{texts_items}
 use Rattle.wire_json.specs.Requests.{request_value, line_request_in, line_request_of}
 use Rattle.wire_json.specs.Told.{CanBeTold, request_text}
@@ -431,31 +435,43 @@ fits n h = let small : n ≤ LAST_NUMBER = All-head (λ m. m ≤ LAST_NUMBER) n 
 
 -- the value of a request has texts, numbers and lists of texts
 simple_request : (r : Request) → CanBeTold r → (ms : Members) × (request_value r ≡ object ms) × AreSimple ms
-simple_request (requests.Word kind forms) h = (members_of (request_value (requests.Word kind forms)), refl, (tt, (AreTexts-texts forms, (tt, tt))))
-simple_request (requests.Find word) h = (members_of (request_value (requests.Find word)), refl, (tt, (tt, tt)))
-simple_request requests.Words h = (members_of (request_value requests.Words), refl, (tt, tt))
-simple_request (requests.Parse sent) h = (members_of (request_value (requests.Parse sent)), refl, (tt, (tt, tt)))
-simple_request (requests.Reword word forms) h = (members_of (request_value (requests.Reword word forms)), refl, (tt, (AreTexts-texts forms, (tt, tt))))
-simple_request (requests.Unword word) h = (members_of (request_value (requests.Unword word)), refl, (tt, (tt, tt)))
-simple_request (requests.Grammar sent) h = (members_of (request_value (requests.Grammar sent)), refl, (tt, (tt, tt)))
-simple_request (requests.Add article None sent) h = (members_of (request_value (requests.Add article None sent)), refl, (tt, (tt, (tt, tt))))
-simple_request (requests.Add article (Some place) sent) h =
-    (members_of (request_value (requests.Add article (Some place) sent)), refl, (tt, (fits place h.numbers, (tt, (tt, tt)))))
-simple_request (requests.Edit article place sent) h =
-    (members_of (request_value (requests.Edit article place sent)), refl, (tt, (fits place h.numbers, (tt, (tt, tt)))))
-simple_request (requests.Remove article place) h = (members_of (request_value (requests.Remove article place)), refl, (tt, (fits place h.numbers, (tt, tt))))
-simple_request (requests.Retract article place) h = (members_of (request_value (requests.Retract article place)), refl, (tt, (fits place h.numbers, (tt, tt))))
-simple_request (requests.Reassert article place) h =
-    (members_of (request_value (requests.Reassert article place)), refl, (tt, (fits place h.numbers, (tt, tt))))
-simple_request (requests.Read article) h = (members_of (request_value (requests.Read article)), refl, (tt, (tt, tt)))
-simple_request (requests.Axioms article place) h = (members_of (request_value (requests.Axioms article place)), refl, (tt, (fits place h.numbers, (tt, tt))))
-simple_request (requests.Begin article) h = (members_of (request_value (requests.Begin article)), refl, (tt, (tt, tt)))
-simple_request (requests.Put session sent) h = (members_of (request_value (requests.Put session sent)), refl, (tt, (fits session h.numbers, (tt, tt))))
-simple_request (requests.Back session) h = (members_of (request_value (requests.Back session)), refl, (tt, (fits session h.numbers, tt)))
-simple_request (requests.Menu session) h = (members_of (request_value (requests.Menu session)), refl, (tt, (fits session h.numbers, tt)))
-simple_request (requests.Commit session) h = (members_of (request_value (requests.Commit session)), refl, (tt, (fits session h.numbers, tt)))
-simple_request (requests.Refresh session) h = (members_of (request_value (requests.Refresh session)), refl, (tt, (fits session h.numbers, tt)))
-simple_request (requests.Drop session) h = (members_of (request_value (requests.Drop session)), refl, (tt, (fits session h.numbers, tt)))
+simple_request (requests.OnWiki (of_wiki.Word kind forms)) h =
+    (members_of (request_value (requests.OnWiki (of_wiki.Word kind forms))), refl, (tt, (AreTexts-texts forms, (tt, tt))))
+simple_request (requests.OnWord word of_word.Find) h = (members_of (request_value (requests.OnWord word of_word.Find)), refl, (tt, (tt, tt)))
+simple_request (requests.OnWiki of_wiki.Words) h = (members_of (request_value (requests.OnWiki of_wiki.Words)), refl, (tt, tt))
+simple_request (requests.OnWiki (of_wiki.Parse sent)) h = (members_of (request_value (requests.OnWiki (of_wiki.Parse sent))), refl, (tt, (tt, tt)))
+simple_request (requests.OnWord word (of_word.Reword forms)) h =
+    (members_of (request_value (requests.OnWord word (of_word.Reword forms))), refl, (tt, (AreTexts-texts forms, (tt, tt))))
+simple_request (requests.OnWord word of_word.Unword) h = (members_of (request_value (requests.OnWord word of_word.Unword)), refl, (tt, (tt, tt)))
+simple_request (requests.OnWiki (of_wiki.Grammar sent)) h = (members_of (request_value (requests.OnWiki (of_wiki.Grammar sent))), refl, (tt, (tt, tt)))
+simple_request (requests.OnArticle article (of_article.Add None sent)) h =
+    (members_of (request_value (requests.OnArticle article (of_article.Add None sent))), refl, (tt, (tt, (tt, tt))))
+simple_request (requests.OnArticle article (of_article.Add (Some place) sent)) h =
+    (members_of (request_value (requests.OnArticle article (of_article.Add (Some place) sent))), refl, (tt, (fits place h.numbers, (tt, (tt, tt)))))
+simple_request (requests.OnArticle article (of_article.Edit place sent)) h =
+    (members_of (request_value (requests.OnArticle article (of_article.Edit place sent))), refl, (tt, (fits place h.numbers, (tt, (tt, tt)))))
+simple_request (requests.OnArticle article (of_article.Remove place)) h =
+    (members_of (request_value (requests.OnArticle article (of_article.Remove place))), refl, (tt, (fits place h.numbers, (tt, tt))))
+simple_request (requests.OnArticle article (of_article.Retract place)) h =
+    (members_of (request_value (requests.OnArticle article (of_article.Retract place))), refl, (tt, (fits place h.numbers, (tt, tt))))
+simple_request (requests.OnArticle article (of_article.Reassert place)) h =
+    (members_of (request_value (requests.OnArticle article (of_article.Reassert place))), refl, (tt, (fits place h.numbers, (tt, tt))))
+simple_request (requests.OnArticle article of_article.Read) h = (members_of (request_value (requests.OnArticle article of_article.Read)), refl, (tt, (tt, tt)))
+simple_request (requests.OnArticle article (of_article.Axioms place)) h =
+    (members_of (request_value (requests.OnArticle article (of_article.Axioms place))), refl, (tt, (fits place h.numbers, (tt, tt))))
+simple_request (requests.OnArticle article of_article.Open) h = (members_of (request_value (requests.OnArticle article of_article.Open)), refl, (tt, (tt, tt)))
+simple_request (requests.OnSession session (of_session.Type sent)) h =
+    (members_of (request_value (requests.OnSession session (of_session.Type sent))), refl, (tt, (fits session h.numbers, (tt, tt))))
+simple_request (requests.OnSession session of_session.Back) h =
+    (members_of (request_value (requests.OnSession session of_session.Back)), refl, (tt, (fits session h.numbers, tt)))
+simple_request (requests.OnSession session of_session.Menu) h =
+    (members_of (request_value (requests.OnSession session of_session.Menu)), refl, (tt, (fits session h.numbers, tt)))
+simple_request (requests.OnSession session of_session.Commit) h =
+    (members_of (request_value (requests.OnSession session of_session.Commit)), refl, (tt, (fits session h.numbers, tt)))
+simple_request (requests.OnSession session of_session.Refresh) h =
+    (members_of (request_value (requests.OnSession session of_session.Refresh)), refl, (tt, (fits session h.numbers, tt)))
+simple_request (requests.OnSession session of_session.Drop) h =
+    (members_of (request_value (requests.OnSession session of_session.Drop)), refl, (tt, (fits session h.numbers, tt)))
 
 -- the line of a request that was cut before its last byte is no request
 pub cut_is_no_request : (r : Request) → CanBeTold r → (n : ℕ) → n < length (request_text r) → line_request_of (take n (request_text r)) ≡ None

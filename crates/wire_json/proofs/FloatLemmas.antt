@@ -8,6 +8,10 @@ use Rattle.wiki_talk.specs.declared.replies.Reply.{Reply}
 use Rattle.wiki_talk.specs.declared.replies.Reply.TheVariants as replies
 use Rattle.wiki_talk.specs.declared.requests.Request.{Request}
 use Rattle.wiki_talk.specs.declared.requests.Request.TheVariants as requests
+use Rattle.wiki_talk.specs.declared.requests.WikiRequest.TheVariants as of_wiki
+use Rattle.wiki_talk.specs.declared.requests.WordRequest.TheVariants as of_word
+use Rattle.wiki_talk.specs.declared.requests.ArticleRequest.TheVariants as of_article
+use Rattle.wiki_talk.specs.declared.requests.SessionRequest.TheVariants as of_session
 use Rattle.wiki_talk.specs.declared.refusals.Refusal.{Refusal}
 use Rattle.wiki_talk.specs.declared.refusals.Refusal.TheVariants.{NoWord, BadForm, Taken, Reserved, NoPlace, NoSession, Full, Stale, NotOffered, Nothing, Unfinished, NotSentence, InUse, Breaks, BadStatus, GrammarRefused, Bare}
 use Rattle.wiki_talk.specs.declared.replies.SentenceView.{SentenceView}
@@ -102,8 +106,8 @@ has_float-reply (replies.Retract status) = has_float-status _ status
 has_float-reply (replies.Reassert status) = has_float-status _ status
 has_float-reply (replies.Read form revision sentences) = rw (has_float-sentences sentences) refl
 has_float-reply (replies.Axioms meant) = has_float-meant meant
-has_float-reply (replies.Begin session) = refl
-has_float-reply (replies.Put tokens) = refl
+has_float-reply (replies.Open session) = refl
+has_float-reply (replies.Type tokens) = refl
 has_float-reply (replies.Back tokens) = refl
 has_float-reply (replies.Menu menu whole shown) = rw (has_float-menu menu) refl
 has_float-reply (replies.Commit article status shown) = has_float-commit article status
@@ -115,24 +119,24 @@ has_float-reply (replies.Redo article) = refl
 has_float-reply (replies.Refused refusal) = has_float-refusal refusal
 
 pub has_float-request : (request : Request) → has_float (request_value request) ≡ false
-has_float-request (requests.Word kind forms) = rw (has_float-texts forms) refl
-has_float-request (requests.Find word) = refl
-has_float-request requests.Words = refl
-has_float-request (requests.Parse text) = refl
-has_float-request (requests.Reword word forms) = rw (has_float-texts forms) refl
-has_float-request (requests.Unword word) = refl
-has_float-request (requests.Grammar text) = refl
-has_float-request (requests.Add article place text) = has_float-place place _ refl
-has_float-request (requests.Edit article place text) = refl
-has_float-request (requests.Remove article place) = refl
-has_float-request (requests.Retract article place) = refl
-has_float-request (requests.Reassert article place) = refl
-has_float-request (requests.Read article) = refl
-has_float-request (requests.Axioms article place) = refl
-has_float-request (requests.Begin article) = refl
-has_float-request (requests.Put session text) = refl
-has_float-request (requests.Back session) = refl
-has_float-request (requests.Menu session) = refl
-has_float-request (requests.Commit session) = refl
-has_float-request (requests.Refresh session) = refl
-has_float-request (requests.Drop session) = refl
+has_float-request (requests.OnWiki (of_wiki.Word kind forms)) = rw (has_float-texts forms) refl
+has_float-request (requests.OnWord word of_word.Find) = refl
+has_float-request (requests.OnWiki of_wiki.Words) = refl
+has_float-request (requests.OnWiki (of_wiki.Parse text)) = refl
+has_float-request (requests.OnWord word (of_word.Reword forms)) = rw (has_float-texts forms) refl
+has_float-request (requests.OnWord word of_word.Unword) = refl
+has_float-request (requests.OnWiki (of_wiki.Grammar text)) = refl
+has_float-request (requests.OnArticle article (of_article.Add place text)) = has_float-place place _ refl
+has_float-request (requests.OnArticle article (of_article.Edit place text)) = refl
+has_float-request (requests.OnArticle article (of_article.Remove place)) = refl
+has_float-request (requests.OnArticle article (of_article.Retract place)) = refl
+has_float-request (requests.OnArticle article (of_article.Reassert place)) = refl
+has_float-request (requests.OnArticle article of_article.Read) = refl
+has_float-request (requests.OnArticle article (of_article.Axioms place)) = refl
+has_float-request (requests.OnArticle article of_article.Open) = refl
+has_float-request (requests.OnSession session (of_session.Type text)) = refl
+has_float-request (requests.OnSession session of_session.Back) = refl
+has_float-request (requests.OnSession session of_session.Menu) = refl
+has_float-request (requests.OnSession session of_session.Commit) = refl
+has_float-request (requests.OnSession session of_session.Refresh) = refl
+has_float-request (requests.OnSession session of_session.Drop) = refl

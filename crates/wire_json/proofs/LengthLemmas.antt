@@ -13,6 +13,10 @@ use Rattle.lexicon.specs.declared.words.TheConstants.{LAST_NUMBER}
 use Rattle.wiki_io.specs.declared.limits.TheConstants.{MAX_LINE}
 use Rattle.wiki_talk.specs.declared.requests.Request.{Request}
 use Rattle.wiki_talk.specs.declared.requests.Request.TheVariants as requests
+use Rattle.wiki_talk.specs.declared.requests.WikiRequest.TheVariants as of_wiki
+use Rattle.wiki_talk.specs.declared.requests.WordRequest.TheVariants as of_word
+use Rattle.wiki_talk.specs.declared.requests.ArticleRequest.TheVariants as of_article
+use Rattle.wiki_talk.specs.declared.requests.SessionRequest.TheVariants as of_session
 use Rattle.wiki_talk.specs.Kinds.{kind_name}
 use Rattle.wire_json.specs.Values.{line_text, texts_items}
 use Rattle.wire_json.specs.Requests.{request_value, request_line}
@@ -91,28 +95,29 @@ size-kind Adjective = omega arith
 
 size-request : (r : Request) → CanBeTold r → size (request_value r) ≤ 6 * total (texts_of r) + 3 * length (texts_of r) + 49
 unfolding escape_byte
-size-request (requests.Word kind forms) h = omega (arith, size-texts forms, size-kind kind)
-size-request (requests.Find word) h = omega (arith, length-quoted word)
-size-request requests.Words h = omega arith
-size-request (requests.Parse text) h = omega (arith, length-quoted text)
-size-request (requests.Reword word forms) h = omega (arith, size-texts forms, length-quoted word)
-size-request (requests.Unword word) h = omega (arith, length-quoted word)
-size-request (requests.Grammar text) h = omega (arith, length-quoted text)
-size-request (requests.Add article None text) h = omega (arith, length-quoted article, length-quoted text)
-size-request (requests.Add article (Some place) text) h = omega (arith, length-quoted article, length-quoted text, digits place h.numbers)
-size-request (requests.Edit article place text) h = omega (arith, length-quoted article, length-quoted text, digits place h.numbers)
-size-request (requests.Remove article place) h = omega (arith, length-quoted article, digits place h.numbers)
-size-request (requests.Retract article place) h = omega (arith, length-quoted article, digits place h.numbers)
-size-request (requests.Reassert article place) h = omega (arith, length-quoted article, digits place h.numbers)
-size-request (requests.Read article) h = omega (arith, length-quoted article)
-size-request (requests.Axioms article place) h = omega (arith, length-quoted article, digits place h.numbers)
-size-request (requests.Begin article) h = omega (arith, length-quoted article)
-size-request (requests.Put session text) h = omega (arith, length-quoted text, digits session h.numbers)
-size-request (requests.Back session) h = omega (arith, digits session h.numbers)
-size-request (requests.Menu session) h = omega (arith, digits session h.numbers)
-size-request (requests.Commit session) h = omega (arith, digits session h.numbers)
-size-request (requests.Refresh session) h = omega (arith, digits session h.numbers)
-size-request (requests.Drop session) h = omega (arith, digits session h.numbers)
+size-request (requests.OnWiki (of_wiki.Word kind forms)) h = omega (arith, size-texts forms, size-kind kind)
+size-request (requests.OnWord word of_word.Find) h = omega (arith, length-quoted word)
+size-request (requests.OnWiki of_wiki.Words) h = omega arith
+size-request (requests.OnWiki (of_wiki.Parse text)) h = omega (arith, length-quoted text)
+size-request (requests.OnWord word (of_word.Reword forms)) h = omega (arith, size-texts forms, length-quoted word)
+size-request (requests.OnWord word of_word.Unword) h = omega (arith, length-quoted word)
+size-request (requests.OnWiki (of_wiki.Grammar text)) h = omega (arith, length-quoted text)
+size-request (requests.OnArticle article (of_article.Add None text)) h = omega (arith, length-quoted article, length-quoted text)
+size-request (requests.OnArticle article (of_article.Add (Some place) text)) h =
+    omega (arith, length-quoted article, length-quoted text, digits place h.numbers)
+size-request (requests.OnArticle article (of_article.Edit place text)) h = omega (arith, length-quoted article, length-quoted text, digits place h.numbers)
+size-request (requests.OnArticle article (of_article.Remove place)) h = omega (arith, length-quoted article, digits place h.numbers)
+size-request (requests.OnArticle article (of_article.Retract place)) h = omega (arith, length-quoted article, digits place h.numbers)
+size-request (requests.OnArticle article (of_article.Reassert place)) h = omega (arith, length-quoted article, digits place h.numbers)
+size-request (requests.OnArticle article of_article.Read) h = omega (arith, length-quoted article)
+size-request (requests.OnArticle article (of_article.Axioms place)) h = omega (arith, length-quoted article, digits place h.numbers)
+size-request (requests.OnArticle article of_article.Open) h = omega (arith, length-quoted article)
+size-request (requests.OnSession session (of_session.Type text)) h = omega (arith, length-quoted text, digits session h.numbers)
+size-request (requests.OnSession session of_session.Back) h = omega (arith, digits session h.numbers)
+size-request (requests.OnSession session of_session.Menu) h = omega (arith, digits session h.numbers)
+size-request (requests.OnSession session of_session.Commit) h = omega (arith, digits session h.numbers)
+size-request (requests.OnSession session of_session.Refresh) h = omega (arith, digits session h.numbers)
+size-request (requests.OnSession session of_session.Drop) h = omega (arith, digits session h.numbers)
 
 -- a line is its text and a newline
 pub request_line-text : (r : Request) → request_line r ≡ request_text r ++ 10 ∷ []
@@ -138,86 +143,87 @@ size-line : (r : Request) → length (request_line r) ≡ length (request_text r
 size-line r = rw (request_line-text r) (length-append (request_text r) (10 ∷ []))
 
 -- a line isn't too long exactly where it has at most so many bytes, its newline among them
-line_fits : (r : Request) (line : List ℕ) → line ≡ request_line r → nat_le (length line) MAX_LINE ≡ fits_line r
+pub line_fits : (r : Request) (line : List ℕ) → line ≡ request_line r → nat_le (length line) MAX_LINE ≡ fits_line r
 line_fits r line is = rw is (grind (arith, nat_tests, size-line r))
-
--- so it is of a request that gives a grammar
-pub grammar_fits : (r : Request) (text bytes line : List ℕ) → bytes ≡ line → line ≡ request_line r → r ≡ requests.Grammar text
-    → nat_le (length bytes) MAX_LINE ≡ gives_line r
-grammar_fits r text bytes line same is grammar = rw grammar (line_fits (requests.Grammar text) bytes (same ∙ is ∙ ap request_line grammar))
 
 -- the line of a change whose texts are no longer than those of a wiki, or of a grammar that a line can hold
 pub length-change_line : (r : Request) → CanBeTold r → IsShortChange r → length (request_line r) ≤ most_for r
-length-change_line (requests.Word kind forms) h short = omega (arith, length-request_line (requests.Word kind forms) h, total-forms forms short.0, short.1)
-length-change_line (requests.Find word) h short = absurd short
-length-change_line requests.Words h short = absurd short
-length-change_line (requests.Parse text) h short = absurd short
-length-change_line (requests.Reword word forms) h short =
-    omega (arith, length-request_line (requests.Reword word forms) h, short.0, total-forms forms short.1.0, short.1.1)
-length-change_line (requests.Unword word) h short = omega (arith, length-request_line (requests.Unword word) h, short)
-length-change_line (requests.Grammar text) h short = omega (arith, size-line (requests.Grammar text), ltb-true _ _ short)
-length-change_line (requests.Add article place text) h short = omega (arith, length-request_line (requests.Add article place text) h, short.0, short.1)
-length-change_line (requests.Edit article place text) h short = omega (arith, length-request_line (requests.Edit article place text) h, short.0, short.1)
-length-change_line (requests.Remove article place) h short = omega (arith, length-request_line (requests.Remove article place) h, short)
-length-change_line (requests.Retract article place) h short = omega (arith, length-request_line (requests.Retract article place) h, short)
-length-change_line (requests.Reassert article place) h short = omega (arith, length-request_line (requests.Reassert article place) h, short)
-length-change_line (requests.Read article) h short = absurd short
-length-change_line (requests.Axioms article place) h short = absurd short
-length-change_line (requests.Begin article) h short = absurd short
-length-change_line (requests.Put session text) h short = absurd short
-length-change_line (requests.Back session) h short = absurd short
-length-change_line (requests.Menu session) h short = absurd short
-length-change_line (requests.Commit session) h short = absurd short
-length-change_line (requests.Refresh session) h short = absurd short
-length-change_line (requests.Drop session) h short = absurd short
+length-change_line (requests.OnWiki (of_wiki.Word kind forms)) h short =
+    omega (arith, length-request_line (requests.OnWiki (of_wiki.Word kind forms)) h, total-forms forms short.0, short.1)
+length-change_line (requests.OnWord word of_word.Find) h short = absurd short
+length-change_line (requests.OnWiki of_wiki.Words) h short = absurd short
+length-change_line (requests.OnWiki (of_wiki.Parse text)) h short = absurd short
+length-change_line (requests.OnWord word (of_word.Reword forms)) h short =
+    omega (arith, length-request_line (requests.OnWord word (of_word.Reword forms)) h, short.0, total-forms forms short.1.0, short.1.1)
+length-change_line (requests.OnWord word of_word.Unword) h short = omega (arith, length-request_line (requests.OnWord word of_word.Unword) h, short)
+length-change_line (requests.OnWiki (of_wiki.Grammar text)) h short = omega (arith, size-line (requests.OnWiki (of_wiki.Grammar text)), ltb-true _ _ short)
+length-change_line (requests.OnArticle article (of_article.Add place text)) h short =
+    omega (arith, length-request_line (requests.OnArticle article (of_article.Add place text)) h, short.0, short.1)
+length-change_line (requests.OnArticle article (of_article.Edit place text)) h short =
+    omega (arith, length-request_line (requests.OnArticle article (of_article.Edit place text)) h, short.0, short.1)
+length-change_line (requests.OnArticle article (of_article.Remove place)) h short =
+    omega (arith, length-request_line (requests.OnArticle article (of_article.Remove place)) h, short)
+length-change_line (requests.OnArticle article (of_article.Retract place)) h short =
+    omega (arith, length-request_line (requests.OnArticle article (of_article.Retract place)) h, short)
+length-change_line (requests.OnArticle article (of_article.Reassert place)) h short =
+    omega (arith, length-request_line (requests.OnArticle article (of_article.Reassert place)) h, short)
+length-change_line (requests.OnArticle article of_article.Read) h short = absurd short
+length-change_line (requests.OnArticle article (of_article.Axioms place)) h short = absurd short
+length-change_line (requests.OnArticle article of_article.Open) h short = absurd short
+length-change_line (requests.OnSession session (of_session.Type text)) h short = absurd short
+length-change_line (requests.OnSession session of_session.Back) h short = absurd short
+length-change_line (requests.OnSession session of_session.Menu) h short = absurd short
+length-change_line (requests.OnSession session of_session.Commit) h short = absurd short
+length-change_line (requests.OnSession session of_session.Refresh) h short = absurd short
+length-change_line (requests.OnSession session of_session.Drop) h short = absurd short
 
 -- no line has more bytes than the longest
 pub most-line : (r : Request) → most_for r ≤ MAX_LINE
-most-line (requests.Word kind forms) = omega arith
-most-line (requests.Find word) = omega arith
-most-line requests.Words = omega arith
-most-line (requests.Parse text) = omega arith
-most-line (requests.Reword word forms) = omega arith
-most-line (requests.Unword word) = omega arith
-most-line (requests.Grammar text) = omega arith
-most-line (requests.Add article place text) = omega arith
-most-line (requests.Edit article place text) = omega arith
-most-line (requests.Remove article place) = omega arith
-most-line (requests.Retract article place) = omega arith
-most-line (requests.Reassert article place) = omega arith
-most-line (requests.Read article) = omega arith
-most-line (requests.Axioms article place) = omega arith
-most-line (requests.Begin article) = omega arith
-most-line (requests.Put session text) = omega arith
-most-line (requests.Back session) = omega arith
-most-line (requests.Menu session) = omega arith
-most-line (requests.Commit session) = omega arith
-most-line (requests.Refresh session) = omega arith
-most-line (requests.Drop session) = omega arith
+most-line (requests.OnWiki (of_wiki.Word kind forms)) = omega arith
+most-line (requests.OnWord word of_word.Find) = omega arith
+most-line (requests.OnWiki of_wiki.Words) = omega arith
+most-line (requests.OnWiki (of_wiki.Parse text)) = omega arith
+most-line (requests.OnWord word (of_word.Reword forms)) = omega arith
+most-line (requests.OnWord word of_word.Unword) = omega arith
+most-line (requests.OnWiki (of_wiki.Grammar text)) = omega arith
+most-line (requests.OnArticle article (of_article.Add place text)) = omega arith
+most-line (requests.OnArticle article (of_article.Edit place text)) = omega arith
+most-line (requests.OnArticle article (of_article.Remove place)) = omega arith
+most-line (requests.OnArticle article (of_article.Retract place)) = omega arith
+most-line (requests.OnArticle article (of_article.Reassert place)) = omega arith
+most-line (requests.OnArticle article of_article.Read) = omega arith
+most-line (requests.OnArticle article (of_article.Axioms place)) = omega arith
+most-line (requests.OnArticle article of_article.Open) = omega arith
+most-line (requests.OnSession session (of_session.Type text)) = omega arith
+most-line (requests.OnSession session of_session.Back) = omega arith
+most-line (requests.OnSession session of_session.Menu) = omega arith
+most-line (requests.OnSession session of_session.Commit) = omega arith
+most-line (requests.OnSession session of_session.Refresh) = omega arith
+most-line (requests.OnSession session of_session.Drop) = omega arith
 
 -- and none has fewer than that of a change of words or sentences
 pub least_most : (r : Request) → most_line ≤ most_for r
-least_most (requests.Word kind forms) = omega arith
-least_most (requests.Find word) = omega arith
-least_most requests.Words = omega arith
-least_most (requests.Parse text) = omega arith
-least_most (requests.Reword word forms) = omega arith
-least_most (requests.Unword word) = omega arith
-least_most (requests.Grammar text) = omega arith
-least_most (requests.Add article place text) = omega arith
-least_most (requests.Edit article place text) = omega arith
-least_most (requests.Remove article place) = omega arith
-least_most (requests.Retract article place) = omega arith
-least_most (requests.Reassert article place) = omega arith
-least_most (requests.Read article) = omega arith
-least_most (requests.Axioms article place) = omega arith
-least_most (requests.Begin article) = omega arith
-least_most (requests.Put session text) = omega arith
-least_most (requests.Back session) = omega arith
-least_most (requests.Menu session) = omega arith
-least_most (requests.Commit session) = omega arith
-least_most (requests.Refresh session) = omega arith
-least_most (requests.Drop session) = omega arith
+least_most (requests.OnWiki (of_wiki.Word kind forms)) = omega arith
+least_most (requests.OnWord word of_word.Find) = omega arith
+least_most (requests.OnWiki of_wiki.Words) = omega arith
+least_most (requests.OnWiki (of_wiki.Parse text)) = omega arith
+least_most (requests.OnWord word (of_word.Reword forms)) = omega arith
+least_most (requests.OnWord word of_word.Unword) = omega arith
+least_most (requests.OnWiki (of_wiki.Grammar text)) = omega arith
+least_most (requests.OnArticle article (of_article.Add place text)) = omega arith
+least_most (requests.OnArticle article (of_article.Edit place text)) = omega arith
+least_most (requests.OnArticle article (of_article.Remove place)) = omega arith
+least_most (requests.OnArticle article (of_article.Retract place)) = omega arith
+least_most (requests.OnArticle article (of_article.Reassert place)) = omega arith
+least_most (requests.OnArticle article of_article.Read) = omega arith
+least_most (requests.OnArticle article (of_article.Axioms place)) = omega arith
+least_most (requests.OnArticle article of_article.Open) = omega arith
+least_most (requests.OnSession session (of_session.Type text)) = omega arith
+least_most (requests.OnSession session of_session.Back) = omega arith
+least_most (requests.OnSession session of_session.Menu) = omega arith
+least_most (requests.OnSession session of_session.Commit) = omega arith
+least_most (requests.OnSession session of_session.Refresh) = omega arith
+least_most (requests.OnSession session of_session.Drop) = omega arith
 
 -- it is no line that is too long
 pub change-fits : (r : Request) → CanBeTold r → IsShortChange r → length (request_text r) < MAX_LINE

@@ -17,10 +17,14 @@ use Rattle.lexicon.specs.declared.kinds.Kind.TheVariants.{Name, Noun, Of, Verb, 
 use Rattle.lexicon.specs.declared.words.TheConstants.{LAST_NUMBER}
 use Rattle.wiki_talk.specs.declared.requests.Request.{Request}
 use Rattle.wiki_talk.specs.declared.requests.Request.TheVariants as requests
+use Rattle.wiki_talk.specs.declared.requests.WikiRequest.TheVariants as of_wiki
+use Rattle.wiki_talk.specs.declared.requests.WordRequest.TheVariants as of_word
+use Rattle.wiki_talk.specs.declared.requests.ArticleRequest.TheVariants as of_article
+use Rattle.wiki_talk.specs.declared.requests.SessionRequest.TheVariants as of_session
 use Rattle.wiki_talk.specs.Kinds.{kind_name, kind_named}
 use Rattle.wire_json.specs.Values.{texts_items}
 use Rattle.wire_json.specs.Requests as wire
-use Rattle.wire_json.specs.Requests.{request_value, request_in, request_named, texts_in, place_value, session_value, word_in, find_in, parse_in, reword_in, unword_in, grammar_in, add_in, place_in, edit_in, read_in, open_in, type_in}
+use Rattle.wire_json.specs.Requests.{request_value, request_in, request_named, texts_in, place_value, session_value, word_in, on_word_in, parse_in, reword_in, grammar_in, on_article_in, add_in, place_in, edit_in, type_in}
 use Rattle.wire_json.specs.Told.{CanBeTold, request_text}
 use Rattle.wire_json.proofs.TextLemmas.{IsTold, AreTold, tokens-compact_text}
 
@@ -83,54 +87,54 @@ kind_comes_back Adjective = refl
 
 -- the value comes back from its outline
 pub value_comes_back : (r : Request) → CanBeTold r → of_json (outline (request_value r)) ≡ Some (request_value r)
-value_comes_back (requests.Word kind forms) h = rw (of_items-texts forms) refl
-value_comes_back (requests.Find word) h = refl
-value_comes_back requests.Words h = refl
-value_comes_back (requests.Parse text) h = refl
-value_comes_back (requests.Reword word forms) h = rw (of_items-texts forms) refl
-value_comes_back (requests.Unword word) h = refl
-value_comes_back (requests.Grammar text) h = refl
-value_comes_back (requests.Add article None text) h = refl
-value_comes_back (requests.Add article (Some place) text) h = rw (number_comes_back place (fits place h.numbers)) refl
-value_comes_back (requests.Edit article place text) h = rw (number_comes_back place (fits place h.numbers)) refl
-value_comes_back (requests.Remove article place) h = rw (number_comes_back place (fits place h.numbers)) refl
-value_comes_back (requests.Retract article place) h = rw (number_comes_back place (fits place h.numbers)) refl
-value_comes_back (requests.Reassert article place) h = rw (number_comes_back place (fits place h.numbers)) refl
-value_comes_back (requests.Read article) h = refl
-value_comes_back (requests.Axioms article place) h = rw (number_comes_back place (fits place h.numbers)) refl
-value_comes_back (requests.Begin article) h = refl
-value_comes_back (requests.Put session text) h = rw (number_comes_back session (fits session h.numbers)) refl
-value_comes_back (requests.Back session) h = rw (number_comes_back session (fits session h.numbers)) refl
-value_comes_back (requests.Menu session) h = rw (number_comes_back session (fits session h.numbers)) refl
-value_comes_back (requests.Commit session) h = rw (number_comes_back session (fits session h.numbers)) refl
-value_comes_back (requests.Refresh session) h = rw (number_comes_back session (fits session h.numbers)) refl
-value_comes_back (requests.Drop session) h = rw (number_comes_back session (fits session h.numbers)) refl
+value_comes_back (requests.OnWiki (of_wiki.Word kind forms)) h = rw (of_items-texts forms) refl
+value_comes_back (requests.OnWord word of_word.Find) h = refl
+value_comes_back (requests.OnWiki of_wiki.Words) h = refl
+value_comes_back (requests.OnWiki (of_wiki.Parse text)) h = refl
+value_comes_back (requests.OnWord word (of_word.Reword forms)) h = rw (of_items-texts forms) refl
+value_comes_back (requests.OnWord word of_word.Unword) h = refl
+value_comes_back (requests.OnWiki (of_wiki.Grammar text)) h = refl
+value_comes_back (requests.OnArticle article (of_article.Add None text)) h = refl
+value_comes_back (requests.OnArticle article (of_article.Add (Some place) text)) h = rw (number_comes_back place (fits place h.numbers)) refl
+value_comes_back (requests.OnArticle article (of_article.Edit place text)) h = rw (number_comes_back place (fits place h.numbers)) refl
+value_comes_back (requests.OnArticle article (of_article.Remove place)) h = rw (number_comes_back place (fits place h.numbers)) refl
+value_comes_back (requests.OnArticle article (of_article.Retract place)) h = rw (number_comes_back place (fits place h.numbers)) refl
+value_comes_back (requests.OnArticle article (of_article.Reassert place)) h = rw (number_comes_back place (fits place h.numbers)) refl
+value_comes_back (requests.OnArticle article of_article.Read) h = refl
+value_comes_back (requests.OnArticle article (of_article.Axioms place)) h = rw (number_comes_back place (fits place h.numbers)) refl
+value_comes_back (requests.OnArticle article of_article.Open) h = refl
+value_comes_back (requests.OnSession session (of_session.Type text)) h = rw (number_comes_back session (fits session h.numbers)) refl
+value_comes_back (requests.OnSession session of_session.Back) h = rw (number_comes_back session (fits session h.numbers)) refl
+value_comes_back (requests.OnSession session of_session.Menu) h = rw (number_comes_back session (fits session h.numbers)) refl
+value_comes_back (requests.OnSession session of_session.Commit) h = rw (number_comes_back session (fits session h.numbers)) refl
+value_comes_back (requests.OnSession session of_session.Refresh) h = rw (number_comes_back session (fits session h.numbers)) refl
+value_comes_back (requests.OnSession session of_session.Drop) h = rw (number_comes_back session (fits session h.numbers)) refl
 
 -- the value is that of the request
 pub request_comes_back : (r : Request) → CanBeTold r → request_in (request_value r) ≡ Some r
-unfolding request_named word_in find_in parse_in reword_in unword_in grammar_in add_in place_in edit_in read_in open_in type_in
-request_comes_back (requests.Word kind forms) h = rw (kind_comes_back kind, texts_in-texts forms) refl
-request_comes_back (requests.Find word) h = refl
-request_comes_back requests.Words h = refl
-request_comes_back (requests.Parse text) h = refl
-request_comes_back (requests.Reword word forms) h = rw (texts_in-texts forms) refl
-request_comes_back (requests.Unword word) h = refl
-request_comes_back (requests.Grammar text) h = refl
-request_comes_back (requests.Add article None text) h = refl
-request_comes_back (requests.Add article (Some place) text) h = rw (le-leb place LAST_NUMBER (fits place h.numbers)) refl
-request_comes_back (requests.Edit article place text) h = rw (le-leb place LAST_NUMBER (fits place h.numbers)) refl
-request_comes_back (requests.Remove article place) h = rw (le-leb place LAST_NUMBER (fits place h.numbers)) refl
-request_comes_back (requests.Retract article place) h = rw (le-leb place LAST_NUMBER (fits place h.numbers)) refl
-request_comes_back (requests.Reassert article place) h = rw (le-leb place LAST_NUMBER (fits place h.numbers)) refl
-request_comes_back (requests.Read article) h = refl
-request_comes_back (requests.Axioms article place) h = rw (le-leb place LAST_NUMBER (fits place h.numbers)) refl
-request_comes_back (requests.Begin article) h = refl
-request_comes_back (requests.Put session text) h = rw (le-leb session LAST_NUMBER (fits session h.numbers)) refl
-request_comes_back (requests.Back session) h = rw (le-leb session LAST_NUMBER (fits session h.numbers)) refl
-request_comes_back (requests.Menu session) h = rw (le-leb session LAST_NUMBER (fits session h.numbers)) refl
-request_comes_back (requests.Commit session) h = rw (le-leb session LAST_NUMBER (fits session h.numbers)) refl
-request_comes_back (requests.Refresh session) h = rw (le-leb session LAST_NUMBER (fits session h.numbers)) refl
-request_comes_back (requests.Drop session) h = rw (le-leb session LAST_NUMBER (fits session h.numbers)) refl
+unfolding request_named word_in on_word_in parse_in reword_in grammar_in on_article_in add_in place_in edit_in type_in
+request_comes_back (requests.OnWiki (of_wiki.Word kind forms)) h = rw (kind_comes_back kind, texts_in-texts forms) refl
+request_comes_back (requests.OnWord word of_word.Find) h = refl
+request_comes_back (requests.OnWiki of_wiki.Words) h = refl
+request_comes_back (requests.OnWiki (of_wiki.Parse text)) h = refl
+request_comes_back (requests.OnWord word (of_word.Reword forms)) h = rw (texts_in-texts forms) refl
+request_comes_back (requests.OnWord word of_word.Unword) h = refl
+request_comes_back (requests.OnWiki (of_wiki.Grammar text)) h = refl
+request_comes_back (requests.OnArticle article (of_article.Add None text)) h = refl
+request_comes_back (requests.OnArticle article (of_article.Add (Some place) text)) h = rw (le-leb place LAST_NUMBER (fits place h.numbers)) refl
+request_comes_back (requests.OnArticle article (of_article.Edit place text)) h = rw (le-leb place LAST_NUMBER (fits place h.numbers)) refl
+request_comes_back (requests.OnArticle article (of_article.Remove place)) h = rw (le-leb place LAST_NUMBER (fits place h.numbers)) refl
+request_comes_back (requests.OnArticle article (of_article.Retract place)) h = rw (le-leb place LAST_NUMBER (fits place h.numbers)) refl
+request_comes_back (requests.OnArticle article (of_article.Reassert place)) h = rw (le-leb place LAST_NUMBER (fits place h.numbers)) refl
+request_comes_back (requests.OnArticle article of_article.Read) h = refl
+request_comes_back (requests.OnArticle article (of_article.Axioms place)) h = rw (le-leb place LAST_NUMBER (fits place h.numbers)) refl
+request_comes_back (requests.OnArticle article of_article.Open) h = refl
+request_comes_back (requests.OnSession session (of_session.Type text)) h = rw (le-leb session LAST_NUMBER (fits session h.numbers)) refl
+request_comes_back (requests.OnSession session of_session.Back) h = rw (le-leb session LAST_NUMBER (fits session h.numbers)) refl
+request_comes_back (requests.OnSession session of_session.Menu) h = rw (le-leb session LAST_NUMBER (fits session h.numbers)) refl
+request_comes_back (requests.OnSession session of_session.Commit) h = rw (le-leb session LAST_NUMBER (fits session h.numbers)) refl
+request_comes_back (requests.OnSession session of_session.Refresh) h = rw (le-leb session LAST_NUMBER (fits session h.numbers)) refl
+request_comes_back (requests.OnSession session of_session.Drop) h = rw (le-leb session LAST_NUMBER (fits session h.numbers)) refl
 
 -- ---- the values are told
 
@@ -157,29 +161,29 @@ second : (one two : List ℕ) → All IsUtf8 (one ∷ two ∷ []) → IsUtf8 two
 second one two h = first two [] (others one (two ∷ []) h)
 
 pub IsTold-request : (r : Request) → CanBeTold r → IsTold (request_value r)
-IsTold-request (requests.Word kind forms) h =
+IsTold-request (requests.OnWiki (of_wiki.Word kind forms)) h =
     (key (codes "do") refl, key (codes "word") refl, (key (codes "forms") refl, AreTold-texts forms h.texts, (key (codes "kind") refl, kind_is_ascii kind, tt)))
-IsTold-request (requests.Find word) h =
+IsTold-request (requests.OnWord word of_word.Find) h =
     (key (codes "do") refl, key (codes "find") refl, (key (codes "word") refl, first word [] h.texts, tt))
-IsTold-request requests.Words h =
+IsTold-request (requests.OnWiki of_wiki.Words) h =
     (key (codes "do") refl, key (codes "words") refl, tt)
-IsTold-request (requests.Parse text) h =
+IsTold-request (requests.OnWiki (of_wiki.Parse text)) h =
     (key (codes "do") refl, key (codes "parse") refl, (key (codes "text") refl, first text [] h.texts, tt))
-IsTold-request (requests.Reword word forms) h = (
+IsTold-request (requests.OnWord word (of_word.Reword forms)) h = (
   key (codes "do") refl,
   key (codes "reword") refl,
   (key (codes "forms") refl, AreTold-texts forms (others word forms h.texts), (key (codes "word") refl, first word forms h.texts, tt)),
 )
-IsTold-request (requests.Unword word) h =
+IsTold-request (requests.OnWord word of_word.Unword) h =
     (key (codes "do") refl, key (codes "unword") refl, (key (codes "word") refl, first word [] h.texts, tt))
-IsTold-request (requests.Grammar text) h =
+IsTold-request (requests.OnWiki (of_wiki.Grammar text)) h =
     (key (codes "do") refl, key (codes "grammar") refl, (key (codes "text") refl, first text [] h.texts, tt))
-IsTold-request (requests.Add article None text) h = (
+IsTold-request (requests.OnArticle article (of_article.Add None text)) h = (
   key (codes "article") refl,
   first article (text ∷ []) h.texts,
   (key (codes "do") refl, key (codes "add") refl, (key (codes "text") refl, second article text h.texts, tt)),
 )
-IsTold-request (requests.Add article (Some place) text) h = (
+IsTold-request (requests.OnArticle article (of_article.Add (Some place) text)) h = (
   key (codes "article") refl,
   first article (text ∷ []) h.texts,
   (
@@ -188,7 +192,7 @@ IsTold-request (requests.Add article (Some place) text) h = (
     (key (codes "do") refl, key (codes "add") refl, (key (codes "text") refl, second article text h.texts, tt)),
   ),
 )
-IsTold-request (requests.Edit article place text) h = (
+IsTold-request (requests.OnArticle article (of_article.Edit place text)) h = (
   key (codes "article") refl,
   first article (text ∷ []) h.texts,
   (
@@ -197,50 +201,54 @@ IsTold-request (requests.Edit article place text) h = (
     (key (codes "do") refl, key (codes "edit") refl, (key (codes "text") refl, second article text h.texts, tt)),
   ),
 )
-IsTold-request (requests.Remove article place) h = IsTold-place (codes "remove") article place (key (codes "remove") refl) h.texts h.numbers
-IsTold-request (requests.Retract article place) h = IsTold-place (codes "retract") article place (key (codes "retract") refl) h.texts h.numbers
-IsTold-request (requests.Reassert article place) h = IsTold-place (codes "reassert") article place (key (codes "reassert") refl) h.texts h.numbers
-IsTold-request (requests.Read article) h =
+IsTold-request (requests.OnArticle article (of_article.Remove place)) h =
+    IsTold-place (codes "remove") article place (key (codes "remove") refl) h.texts h.numbers
+IsTold-request (requests.OnArticle article (of_article.Retract place)) h =
+    IsTold-place (codes "retract") article place (key (codes "retract") refl) h.texts h.numbers
+IsTold-request (requests.OnArticle article (of_article.Reassert place)) h =
+    IsTold-place (codes "reassert") article place (key (codes "reassert") refl) h.texts h.numbers
+IsTold-request (requests.OnArticle article of_article.Read) h =
     (key (codes "article") refl, first article [] h.texts, (key (codes "do") refl, key (codes "read") refl, tt))
-IsTold-request (requests.Axioms article place) h = IsTold-place (codes "axioms") article place (key (codes "axioms") refl) h.texts h.numbers
-IsTold-request (requests.Begin article) h =
+IsTold-request (requests.OnArticle article (of_article.Axioms place)) h =
+    IsTold-place (codes "axioms") article place (key (codes "axioms") refl) h.texts h.numbers
+IsTold-request (requests.OnArticle article of_article.Open) h =
     (key (codes "article") refl, first article [] h.texts, (key (codes "do") refl, key (codes "open") refl, tt))
-IsTold-request (requests.Put session text) h = (
+IsTold-request (requests.OnSession session (of_session.Type text)) h = (
   key (codes "do") refl,
   key (codes "type") refl,
   (key (codes "session") refl, number_is_told session (fits session h.numbers), (key (codes "text") refl, first text [] h.texts, tt)),
 )
-IsTold-request (requests.Back session) h = IsTold-session (codes "back") session (key (codes "back") refl) h.numbers
-IsTold-request (requests.Menu session) h = IsTold-session (codes "menu") session (key (codes "menu") refl) h.numbers
-IsTold-request (requests.Commit session) h = IsTold-session (codes "commit") session (key (codes "commit") refl) h.numbers
-IsTold-request (requests.Refresh session) h = IsTold-session (codes "refresh") session (key (codes "refresh") refl) h.numbers
-IsTold-request (requests.Drop session) h = IsTold-session (codes "drop") session (key (codes "drop") refl) h.numbers
+IsTold-request (requests.OnSession session of_session.Back) h = IsTold-session (codes "back") session (key (codes "back") refl) h.numbers
+IsTold-request (requests.OnSession session of_session.Menu) h = IsTold-session (codes "menu") session (key (codes "menu") refl) h.numbers
+IsTold-request (requests.OnSession session of_session.Commit) h = IsTold-session (codes "commit") session (key (codes "commit") refl) h.numbers
+IsTold-request (requests.OnSession session of_session.Refresh) h = IsTold-session (codes "refresh") session (key (codes "refresh") refl) h.numbers
+IsTold-request (requests.OnSession session of_session.Drop) h = IsTold-session (codes "drop") session (key (codes "drop") refl) h.numbers
 
 -- ---- they are shallow
 
 shallow : (r : Request) → tree.depth (outline (request_value r)) ≤ max_depth
-shallow (requests.Word kind forms) = rw (depth-texts forms) (omega arith)
-shallow (requests.Find word) = omega arith
-shallow requests.Words = omega arith
-shallow (requests.Parse text) = omega arith
-shallow (requests.Reword word forms) = rw (depth-texts forms) (omega arith)
-shallow (requests.Unword word) = omega arith
-shallow (requests.Grammar text) = omega arith
-shallow (requests.Add article None text) = omega arith
-shallow (requests.Add article (Some place) text) = omega arith
-shallow (requests.Edit article place text) = omega arith
-shallow (requests.Remove article place) = omega arith
-shallow (requests.Retract article place) = omega arith
-shallow (requests.Reassert article place) = omega arith
-shallow (requests.Read article) = omega arith
-shallow (requests.Axioms article place) = omega arith
-shallow (requests.Begin article) = omega arith
-shallow (requests.Put session text) = omega arith
-shallow (requests.Back session) = omega arith
-shallow (requests.Menu session) = omega arith
-shallow (requests.Commit session) = omega arith
-shallow (requests.Refresh session) = omega arith
-shallow (requests.Drop session) = omega arith
+shallow (requests.OnWiki (of_wiki.Word kind forms)) = rw (depth-texts forms) (omega arith)
+shallow (requests.OnWord word of_word.Find) = omega arith
+shallow (requests.OnWiki of_wiki.Words) = omega arith
+shallow (requests.OnWiki (of_wiki.Parse text)) = omega arith
+shallow (requests.OnWord word (of_word.Reword forms)) = rw (depth-texts forms) (omega arith)
+shallow (requests.OnWord word of_word.Unword) = omega arith
+shallow (requests.OnWiki (of_wiki.Grammar text)) = omega arith
+shallow (requests.OnArticle article (of_article.Add None text)) = omega arith
+shallow (requests.OnArticle article (of_article.Add (Some place) text)) = omega arith
+shallow (requests.OnArticle article (of_article.Edit place text)) = omega arith
+shallow (requests.OnArticle article (of_article.Remove place)) = omega arith
+shallow (requests.OnArticle article (of_article.Retract place)) = omega arith
+shallow (requests.OnArticle article (of_article.Reassert place)) = omega arith
+shallow (requests.OnArticle article of_article.Read) = omega arith
+shallow (requests.OnArticle article (of_article.Axioms place)) = omega arith
+shallow (requests.OnArticle article of_article.Open) = omega arith
+shallow (requests.OnSession session (of_session.Type text)) = omega arith
+shallow (requests.OnSession session of_session.Back) = omega arith
+shallow (requests.OnSession session of_session.Menu) = omega arith
+shallow (requests.OnSession session of_session.Commit) = omega arith
+shallow (requests.OnSession session of_session.Refresh) = omega arith
+shallow (requests.OnSession session of_session.Drop) = omega arith
 
 -- the line's text reads as the request's value
 pub read-request_text : (r : Request) → CanBeTold r → read (request_text r) ≡ Some (request_value r)

@@ -111,10 +111,10 @@ reply_value (replies.Read form revision sentences) = object
     (member (codes "revision") (number (unsigned revision))
     (member (codes "sentences") (array (sentences_items sentences)) no_members)))
 reply_value (replies.Axioms meant) = meant_value meant
-reply_value (replies.Begin session) = object
+reply_value (replies.Open session) = object
     (member (codes "done") (string (codes "open"))
     (member (codes "session") (number (unsigned session)) no_members))
-reply_value (replies.Put tokens) = tokens_value (codes "type") tokens
+reply_value (replies.Type tokens) = tokens_value (codes "type") tokens
 reply_value (replies.Back tokens) = tokens_value (codes "back") tokens
 reply_value (replies.Menu menu whole shown) = object
     (member (codes "done") (string (codes "menu"))

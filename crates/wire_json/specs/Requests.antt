@@ -9,6 +9,13 @@ use Rattle.lexicon.specs.declared.words.TheConstants.{LAST_NUMBER}
 use Rattle.wiki_io.specs.declared.limits.TheConstants.{MAX_LINE}
 use Rattle.wiki_talk.specs.declared.requests.Request.{Request}
 use Rattle.wiki_talk.specs.declared.requests.Request.TheVariants as requests
+use Rattle.wiki_talk.specs.declared.requests.WikiRequest.TheVariants as of_wiki
+use Rattle.wiki_talk.specs.declared.requests.WordRequest.{WordRequest}
+use Rattle.wiki_talk.specs.declared.requests.WordRequest.TheVariants as of_word
+use Rattle.wiki_talk.specs.declared.requests.ArticleRequest.{ArticleRequest}
+use Rattle.wiki_talk.specs.declared.requests.ArticleRequest.TheVariants as of_article
+use Rattle.wiki_talk.specs.declared.requests.SessionRequest.{SessionRequest}
+use Rattle.wiki_talk.specs.declared.requests.SessionRequest.TheVariants as of_session
 use Rattle.wiki_talk.specs.declared.requests.LineRequest.{LineRequest}
 use Rattle.wiki_talk.specs.declared.requests.LineRequest.TheVariants as lines
 use Rattle.wiki_talk.specs.Kinds.{kind_name, kind_named}
@@ -43,36 +50,52 @@ number_if_at key value = option_map_or (λ found. option_map Some (number_of fou
 
 -- a new word: `kind` and `forms`
 unfoldable pub word_in : Data → Option Request
-word_in value = option_and_then (λ kind. option_map (requests.Word kind) (texts_at (codes "forms") value))
+word_in value = option_and_then (λ kind. option_map (λ forms. requests.OnWiki (of_wiki.Word kind forms)) (texts_at (codes "forms") value))
     (option_and_then kind_named (text_at (codes "kind") value))
-
--- the word that has a form: `word`
-unfoldable pub find_in : Data → Option Request
-find_in value = option_map requests.Find (text_at (codes "word") value)
 
 -- all words
 abbrev pub words_in : Data → Option Request
-words_in value = Some requests.Words
+words_in value = Some (requests.OnWiki of_wiki.Words)
 
 -- the code of a text: `text`
 unfoldable pub parse_in : Data → Option Request
-parse_in value = option_map requests.Parse (text_at (codes "text") value)
-
--- other forms for a word: `word` and `forms`
-unfoldable pub reword_in : Data → Option Request
-reword_in value = option_and_then (λ word. option_map (requests.Reword word) (texts_at (codes "forms") value)) (text_at (codes "word") value)
-
--- a word that is to go: `word`
-unfoldable pub unword_in : Data → Option Request
-unword_in value = option_map requests.Unword (text_at (codes "word") value)
+parse_in value = option_map (λ text. requests.OnWiki (of_wiki.Parse text)) (text_at (codes "text") value)
 
 -- another grammar: `text`
 unfoldable pub grammar_in : Data → Option Request
-grammar_in value = option_map requests.Grammar (text_at (codes "text") value)
+grammar_in value = option_map (λ text. requests.OnWiki (of_wiki.Grammar text)) (text_at (codes "text") value)
+
+-- what is asked of the word that has a form: `word`
+unfoldable pub on_word_in : WordRequest → Data → Option Request
+on_word_in asked value = option_map (λ word. requests.OnWord word asked) (text_at (codes "word") value)
+
+-- the word itself, and a word that is to go
+abbrev pub find_in : Data → Option Request
+find_in value = on_word_in of_word.Find value
+
+abbrev pub unword_in : Data → Option Request
+unword_in value = on_word_in of_word.Unword value
+
+-- other forms for a word: `word` and `forms`
+unfoldable pub reword_in : Data → Option Request
+reword_in value = option_and_then (λ word. option_map (λ forms. requests.OnWord word (of_word.Reword forms)) (texts_at (codes "forms") value))
+    (text_at (codes "word") value)
+
+-- what is asked of an article: `article`
+unfoldable pub on_article_in : ArticleRequest → Data → Option Request
+on_article_in asked value = option_map (λ article. requests.OnArticle article asked) (text_at (codes "article") value)
+
+-- its sentences, and a new session on it
+abbrev pub read_in : Data → Option Request
+read_in value = on_article_in of_article.Read value
+
+abbrev pub open_in : Data → Option Request
+open_in value = on_article_in of_article.Open value
 
 -- a new sentence: `article`, `text` and, if it isn't to stand at the end, `at`
 unfoldable pub add_in : Data → Option Request
-add_in value = option_and_then (λ article. option_and_then (λ place. option_map (requests.Add article place) (text_at (codes "text") value))
+add_in value = option_and_then (λ article. option_and_then (λ place. option_map (λ text. requests.OnArticle article (of_article.Add place text))
+    (text_at (codes "text") value))
     (number_if_at (codes "at") value)) (text_at (codes "article") value)
 
 -- an article and a place in it: `article` and `at`
@@ -81,48 +104,46 @@ place_in value = option_and_then (λ article. option_map (λ place. (article, pl
 
 -- another sentence: `article`, `at` and `text`
 unfoldable pub edit_in : Data → Option Request
-edit_in value = option_and_then (λ place. option_map (requests.Edit place.0 place.1) (text_at (codes "text") value)) (place_in value)
+edit_in value = option_and_then (λ place. option_map (λ text. requests.OnArticle place.0 (of_article.Edit place.1 text)) (text_at (codes "text") value))
+    (place_in value)
 
 -- a sentence that is to go, to count no longer, or to be taken up again, and what a sentence means: its place
 abbrev pub remove_in : Data → Option Request
-remove_in value = option_map (λ place. requests.Remove place.0 place.1) (place_in value)
+remove_in value = option_map (λ place. requests.OnArticle place.0 (of_article.Remove place.1)) (place_in value)
 
 abbrev pub retract_in : Data → Option Request
-retract_in value = option_map (λ place. requests.Retract place.0 place.1) (place_in value)
+retract_in value = option_map (λ place. requests.OnArticle place.0 (of_article.Retract place.1)) (place_in value)
 
 abbrev pub reassert_in : Data → Option Request
-reassert_in value = option_map (λ place. requests.Reassert place.0 place.1) (place_in value)
+reassert_in value = option_map (λ place. requests.OnArticle place.0 (of_article.Reassert place.1)) (place_in value)
 
 abbrev pub axioms_in : Data → Option Request
-axioms_in value = option_map (λ place. requests.Axioms place.0 place.1) (place_in value)
-
--- an article: `article`
-unfoldable pub read_in : Data → Option Request
-read_in value = option_map requests.Read (text_at (codes "article") value)
-
--- a new session on an article: `article`
-unfoldable pub open_in : Data → Option Request
-open_in value = option_map requests.Begin (text_at (codes "article") value)
+axioms_in value = option_map (λ place. requests.OnArticle place.0 (of_article.Axioms place.1)) (place_in value)
 
 -- a token for a session: `session` and `text`
 unfoldable pub type_in : Data → Option Request
-type_in value = option_and_then (λ session. option_map (requests.Put session) (text_at (codes "text") value)) (number_at (codes "session") value)
+type_in value = option_and_then (λ session. option_map (λ text. requests.OnSession session (of_session.Type text)) (text_at (codes "text") value))
+    (number_at (codes "session") value)
 
--- one token fewer, what may follow, the sentence of a session, a session that takes note of changes, and one that is to end: its number
+-- what else is asked of a session: its number
+abbrev pub on_session_in : SessionRequest → Data → Option Request
+on_session_in asked value = option_map (λ session. requests.OnSession session asked) (number_at (codes "session") value)
+
+-- one token fewer, what may follow, the sentence of a session, a session that takes note of changes, and one that is to end
 abbrev pub back_in : Data → Option Request
-back_in value = option_map requests.Back (number_at (codes "session") value)
+back_in value = on_session_in of_session.Back value
 
 abbrev pub menu_in : Data → Option Request
-menu_in value = option_map requests.Menu (number_at (codes "session") value)
+menu_in value = on_session_in of_session.Menu value
 
 abbrev pub commit_in : Data → Option Request
-commit_in value = option_map requests.Commit (number_at (codes "session") value)
+commit_in value = on_session_in of_session.Commit value
 
 abbrev pub refresh_in : Data → Option Request
-refresh_in value = option_map requests.Refresh (number_at (codes "session") value)
+refresh_in value = on_session_in of_session.Refresh value
 
 abbrev pub drop_in : Data → Option Request
-drop_in value = option_map requests.Drop (number_at (codes "session") value)
+drop_in value = on_session_in of_session.Drop value
 
 -- a name, and what an object that has it in `do` asks
 pub record Row : Type 0 where
@@ -206,56 +227,56 @@ session_value name session = object
     (member (codes "session") (number (unsigned session)) no_members))
 
 abbrev pub request_value : Request → Data
-request_value (requests.Word kind forms) = object
+request_value (requests.OnWiki (of_wiki.Word kind forms)) = object
     (member (codes "do") (string (codes "word"))
     (member (codes "forms") (array (texts_items forms))
     (member (codes "kind") (string (kind_name kind)) no_members)))
-request_value (requests.Find word) = object
+request_value (requests.OnWord word of_word.Find) = object
     (member (codes "do") (string (codes "find"))
     (member (codes "word") (string word) no_members))
-request_value requests.Words = object (member (codes "do") (string (codes "words")) no_members)
-request_value (requests.Parse text) = object
+request_value (requests.OnWiki of_wiki.Words) = object (member (codes "do") (string (codes "words")) no_members)
+request_value (requests.OnWiki (of_wiki.Parse text)) = object
     (member (codes "do") (string (codes "parse"))
     (member (codes "text") (string text) no_members))
-request_value (requests.Reword word forms) = object
+request_value (requests.OnWord word (of_word.Reword forms)) = object
     (member (codes "do") (string (codes "reword"))
     (member (codes "forms") (array (texts_items forms))
     (member (codes "word") (string word) no_members)))
-request_value (requests.Unword word) = object
+request_value (requests.OnWord word of_word.Unword) = object
     (member (codes "do") (string (codes "unword"))
     (member (codes "word") (string word) no_members))
-request_value (requests.Grammar text) = object
+request_value (requests.OnWiki (of_wiki.Grammar text)) = object
     (member (codes "do") (string (codes "grammar"))
     (member (codes "text") (string text) no_members))
-request_value (requests.Add article place text) = object
+request_value (requests.OnArticle article (of_article.Add place text)) = object
     (member (codes "article") (string article)
     (with_place place
     (member (codes "do") (string (codes "add"))
     (member (codes "text") (string text) no_members))))
-request_value (requests.Edit article place text) = object
+request_value (requests.OnArticle article (of_article.Edit place text)) = object
     (member (codes "article") (string article)
     (member (codes "at") (number (unsigned place))
     (member (codes "do") (string (codes "edit"))
     (member (codes "text") (string text) no_members))))
-request_value (requests.Remove article place) = place_value (codes "remove") article place
-request_value (requests.Retract article place) = place_value (codes "retract") article place
-request_value (requests.Reassert article place) = place_value (codes "reassert") article place
-request_value (requests.Read article) = object
+request_value (requests.OnArticle article (of_article.Remove place)) = place_value (codes "remove") article place
+request_value (requests.OnArticle article (of_article.Retract place)) = place_value (codes "retract") article place
+request_value (requests.OnArticle article (of_article.Reassert place)) = place_value (codes "reassert") article place
+request_value (requests.OnArticle article of_article.Read) = object
     (member (codes "article") (string article)
     (member (codes "do") (string (codes "read")) no_members))
-request_value (requests.Axioms article place) = place_value (codes "axioms") article place
-request_value (requests.Begin article) = object
+request_value (requests.OnArticle article (of_article.Axioms place)) = place_value (codes "axioms") article place
+request_value (requests.OnArticle article of_article.Open) = object
     (member (codes "article") (string article)
     (member (codes "do") (string (codes "open")) no_members))
-request_value (requests.Put session text) = object
+request_value (requests.OnSession session (of_session.Type text)) = object
     (member (codes "do") (string (codes "type"))
     (member (codes "session") (number (unsigned session))
     (member (codes "text") (string text) no_members)))
-request_value (requests.Back session) = session_value (codes "back") session
-request_value (requests.Menu session) = session_value (codes "menu") session
-request_value (requests.Commit session) = session_value (codes "commit") session
-request_value (requests.Refresh session) = session_value (codes "refresh") session
-request_value (requests.Drop session) = session_value (codes "drop") session
+request_value (requests.OnSession session of_session.Back) = session_value (codes "back") session
+request_value (requests.OnSession session of_session.Menu) = session_value (codes "menu") session
+request_value (requests.OnSession session of_session.Commit) = session_value (codes "commit") session
+request_value (requests.OnSession session of_session.Refresh) = session_value (codes "refresh") session
+request_value (requests.OnSession session of_session.Drop) = session_value (codes "drop") session
 
 abbrev pub request_line : Request → List ℕ
 request_line request = line_text (request_value request)

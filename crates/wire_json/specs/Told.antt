@@ -9,56 +9,60 @@ use Rattle.wiki_talk.specs.declared.requests.Request.{Request}
 use Rattle.wiki_talk.specs.declared.requests.LineRequest.{LineRequest}
 use Rattle.wiki_talk.specs.declared.requests.LineRequest.TheVariants.{Step}
 use Rattle.wiki_talk.specs.declared.requests.Request.TheVariants as requests
+use Rattle.wiki_talk.specs.declared.requests.WikiRequest.TheVariants as of_wiki
+use Rattle.wiki_talk.specs.declared.requests.WordRequest.TheVariants as of_word
+use Rattle.wiki_talk.specs.declared.requests.ArticleRequest.TheVariants as of_article
+use Rattle.wiki_talk.specs.declared.requests.SessionRequest.TheVariants as of_session
 use Rattle.wire_json.specs.Requests.{request_value}
 
 -- the texts of a request
 abbrev pub texts_of : Request → List (List ℕ)
-texts_of (requests.Word kind forms) = forms
-texts_of (requests.Find word) = word ∷ []
-texts_of requests.Words = []
-texts_of (requests.Parse text) = text ∷ []
-texts_of (requests.Reword word forms) = word ∷ forms
-texts_of (requests.Unword word) = word ∷ []
-texts_of (requests.Grammar text) = text ∷ []
-texts_of (requests.Add article place text) = article ∷ text ∷ []
-texts_of (requests.Edit article place text) = article ∷ text ∷ []
-texts_of (requests.Remove article place) = article ∷ []
-texts_of (requests.Retract article place) = article ∷ []
-texts_of (requests.Reassert article place) = article ∷ []
-texts_of (requests.Read article) = article ∷ []
-texts_of (requests.Axioms article place) = article ∷ []
-texts_of (requests.Begin article) = article ∷ []
-texts_of (requests.Put session text) = text ∷ []
-texts_of (requests.Back session) = []
-texts_of (requests.Menu session) = []
-texts_of (requests.Commit session) = []
-texts_of (requests.Refresh session) = []
-texts_of (requests.Drop session) = []
+texts_of (requests.OnWiki (of_wiki.Word kind forms)) = forms
+texts_of (requests.OnWord word of_word.Find) = word ∷ []
+texts_of (requests.OnWiki of_wiki.Words) = []
+texts_of (requests.OnWiki (of_wiki.Parse text)) = text ∷ []
+texts_of (requests.OnWord word (of_word.Reword forms)) = word ∷ forms
+texts_of (requests.OnWord word of_word.Unword) = word ∷ []
+texts_of (requests.OnWiki (of_wiki.Grammar text)) = text ∷ []
+texts_of (requests.OnArticle article (of_article.Add place text)) = article ∷ text ∷ []
+texts_of (requests.OnArticle article (of_article.Edit place text)) = article ∷ text ∷ []
+texts_of (requests.OnArticle article (of_article.Remove place)) = article ∷ []
+texts_of (requests.OnArticle article (of_article.Retract place)) = article ∷ []
+texts_of (requests.OnArticle article (of_article.Reassert place)) = article ∷ []
+texts_of (requests.OnArticle article of_article.Read) = article ∷ []
+texts_of (requests.OnArticle article (of_article.Axioms place)) = article ∷ []
+texts_of (requests.OnArticle article of_article.Open) = article ∷ []
+texts_of (requests.OnSession session (of_session.Type text)) = text ∷ []
+texts_of (requests.OnSession session of_session.Back) = []
+texts_of (requests.OnSession session of_session.Menu) = []
+texts_of (requests.OnSession session of_session.Commit) = []
+texts_of (requests.OnSession session of_session.Refresh) = []
+texts_of (requests.OnSession session of_session.Drop) = []
 
 -- the number of a place or of a session, if the request has one
 abbrev pub numbers_of : Request → List ℕ
-numbers_of (requests.Word kind forms) = []
-numbers_of (requests.Find word) = []
-numbers_of requests.Words = []
-numbers_of (requests.Parse text) = []
-numbers_of (requests.Reword word forms) = []
-numbers_of (requests.Unword word) = []
-numbers_of (requests.Grammar text) = []
-numbers_of (requests.Add article None text) = []
-numbers_of (requests.Add article (Some place) text) = place ∷ []
-numbers_of (requests.Edit article place text) = place ∷ []
-numbers_of (requests.Remove article place) = place ∷ []
-numbers_of (requests.Retract article place) = place ∷ []
-numbers_of (requests.Reassert article place) = place ∷ []
-numbers_of (requests.Read article) = []
-numbers_of (requests.Axioms article place) = place ∷ []
-numbers_of (requests.Begin article) = []
-numbers_of (requests.Put session text) = session ∷ []
-numbers_of (requests.Back session) = session ∷ []
-numbers_of (requests.Menu session) = session ∷ []
-numbers_of (requests.Commit session) = session ∷ []
-numbers_of (requests.Refresh session) = session ∷ []
-numbers_of (requests.Drop session) = session ∷ []
+numbers_of (requests.OnWiki (of_wiki.Word kind forms)) = []
+numbers_of (requests.OnWord word of_word.Find) = []
+numbers_of (requests.OnWiki of_wiki.Words) = []
+numbers_of (requests.OnWiki (of_wiki.Parse text)) = []
+numbers_of (requests.OnWord word (of_word.Reword forms)) = []
+numbers_of (requests.OnWord word of_word.Unword) = []
+numbers_of (requests.OnWiki (of_wiki.Grammar text)) = []
+numbers_of (requests.OnArticle article (of_article.Add None text)) = []
+numbers_of (requests.OnArticle article (of_article.Add (Some place) text)) = place ∷ []
+numbers_of (requests.OnArticle article (of_article.Edit place text)) = place ∷ []
+numbers_of (requests.OnArticle article (of_article.Remove place)) = place ∷ []
+numbers_of (requests.OnArticle article (of_article.Retract place)) = place ∷ []
+numbers_of (requests.OnArticle article (of_article.Reassert place)) = place ∷ []
+numbers_of (requests.OnArticle article of_article.Read) = []
+numbers_of (requests.OnArticle article (of_article.Axioms place)) = place ∷ []
+numbers_of (requests.OnArticle article of_article.Open) = []
+numbers_of (requests.OnSession session (of_session.Type text)) = session ∷ []
+numbers_of (requests.OnSession session of_session.Back) = session ∷ []
+numbers_of (requests.OnSession session of_session.Menu) = session ∷ []
+numbers_of (requests.OnSession session of_session.Commit) = session ∷ []
+numbers_of (requests.OnSession session of_session.Refresh) = session ∷ []
+numbers_of (requests.OnSession session of_session.Drop) = session ∷ []
 
 -- a line can tell the request: its texts are UTF-8, and its numbers such as a line can have
 pub record CanBeTold (request : Request) : Type 0 where
@@ -80,7 +84,7 @@ fits_line request = nat_lt (length (request_text request)) MAX_LINE
 
 -- if the request gives a grammar, its line isn't too long
 abbrev pub gives_line : Request → Bool
-gives_line (requests.Grammar text) = fits_line (requests.Grammar text)
+gives_line (requests.OnWiki (of_wiki.Grammar text)) = fits_line (requests.OnWiki (of_wiki.Grammar text))
 gives_line request = true
 
 -- ---- changes of the grammar, of words and of sentences
@@ -99,15 +103,15 @@ IsShortSentence sentence = length sentence ≤ MOST_TOKENS * (LONGEST_TEXT + 1)
 
 -- the request is a change of words or sentences whose texts are no longer than those of a wiki, or one of the grammar that a line can hold
 abbrev pub IsShortChange : Request → Type 0
-IsShortChange (requests.Word kind forms) = AreShortForms forms
-IsShortChange (requests.Reword word forms) = IsShortForm word × AreShortForms forms
-IsShortChange (requests.Unword word) = IsShortForm word
-IsShortChange (requests.Grammar text) = IsTrue (fits_line (requests.Grammar text))
-IsShortChange (requests.Add article place text) = IsShortForm article × IsShortSentence text
-IsShortChange (requests.Edit article place text) = IsShortForm article × IsShortSentence text
-IsShortChange (requests.Remove article place) = IsShortForm article
-IsShortChange (requests.Retract article place) = IsShortForm article
-IsShortChange (requests.Reassert article place) = IsShortForm article
+IsShortChange (requests.OnWiki (of_wiki.Word kind forms)) = AreShortForms forms
+IsShortChange (requests.OnWord word (of_word.Reword forms)) = IsShortForm word × AreShortForms forms
+IsShortChange (requests.OnWord word of_word.Unword) = IsShortForm word
+IsShortChange (requests.OnWiki (of_wiki.Grammar text)) = IsTrue (fits_line (requests.OnWiki (of_wiki.Grammar text)))
+IsShortChange (requests.OnArticle article (of_article.Add place text)) = IsShortForm article × IsShortSentence text
+IsShortChange (requests.OnArticle article (of_article.Edit place text)) = IsShortForm article × IsShortSentence text
+IsShortChange (requests.OnArticle article (of_article.Remove place)) = IsShortForm article
+IsShortChange (requests.OnArticle article (of_article.Retract place)) = IsShortForm article
+IsShortChange (requests.OnArticle article (of_article.Reassert place)) = IsShortForm article
 IsShortChange request = ⊥
 
 -- such a change that a line can tell
@@ -120,7 +124,7 @@ most_line = 16040
 
 -- the same of such a change: the line of a grammar is as long as a line may be
 abbrev pub most_for : Request → ℕ
-most_for (requests.Grammar text) = MAX_LINE
+most_for (requests.OnWiki (of_wiki.Grammar text)) = MAX_LINE
 most_for request = most_line
 
 -- the bytes are whole lines, or none

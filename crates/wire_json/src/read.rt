@@ -1,19 +1,19 @@
 // The request of a line.
 ghost use Rattle.std.specs.Prelude.{◌≡◌, IfOk, option_map};
 ghost use Rattle.serde_json.specs.View.{view, items_view};
-ghost use Rattle.wire_json.specs.Requests.{text_at, texts_at, texts_in, word_in, find_in, words_in, parse_in, reword_in, unword_in, grammar_in, request_named, request_in, request_of, change_named, line_request_in, line_request_of};
+ghost use Rattle.wire_json.specs.Requests.{text_at, texts_at, texts_in, word_in, on_word_in, parse_in, reword_in, grammar_in, request_named, request_in, request_of, change_named, line_request_in, line_request_of};
 
 use crate::sentences::{
-    add_from, axioms_from, edit_from, read_from, reassert_from, remove_from, retract_from,
+    add_from, axioms_from, edit_from, on_article_from, reassert_from, remove_from, retract_from,
 };
-use crate::sessions::{
-    back_from, commit_from, drop_from, menu_from, open_from, refresh_from, type_from,
-};
+use crate::sessions::{on_session_from, type_from};
 use serde_json::Value;
 use std::alloc::Global;
 use wiki_base::{Memory, Text8, Text8s};
 use wiki_io::MAX_LINE;
-use wiki_talk::{LineRequest, Request, kind_named};
+use wiki_talk::{
+    ArticleRequest, LineRequest, Request, SessionRequest, WikiRequest, WordRequest, kind_named,
+};
 
 /// The request of a line without its newline. `None` exactly where the line is too long (`MAX_LINE`) or is no
 /// request.
@@ -82,26 +82,26 @@ fn request_named(alloc: Global, value: &Value, name: &str) -> Result<Option<Requ
 {
     match name {
         "word" => word_from(alloc, value),
-        "find" => find_from(alloc, value),
-        "words" => Ok(Some(Request::Words)),
+        "find" => on_word_from(alloc, value, WordRequest::Find),
+        "words" => Ok(Some(Request::OnWiki(WikiRequest::Words))),
         "parse" => parse_from(alloc, value),
         "reword" => reword_from(alloc, value),
-        "unword" => unword_from(alloc, value),
+        "unword" => on_word_from(alloc, value, WordRequest::Unword),
         "grammar" => grammar_from(alloc, value),
         "add" => add_from(alloc, value),
         "edit" => edit_from(alloc, value),
         "remove" => remove_from(alloc, value),
         "retract" => retract_from(alloc, value),
         "reassert" => reassert_from(alloc, value),
-        "read" => read_from(alloc, value),
+        "read" => on_article_from(alloc, value, ArticleRequest::Read),
         "axioms" => axioms_from(alloc, value),
-        "open" => open_from(alloc, value),
+        "open" => on_article_from(alloc, value, ArticleRequest::Open),
         "type" => type_from(alloc, value),
-        "back" => Ok(back_from(value)),
-        "menu" => Ok(menu_from(value)),
-        "commit" => Ok(commit_from(value)),
-        "refresh" => Ok(refresh_from(value)),
-        "drop" => Ok(drop_from(value)),
+        "back" => Ok(on_session_from(value, SessionRequest::Back)),
+        "menu" => Ok(on_session_from(value, SessionRequest::Menu)),
+        "commit" => Ok(on_session_from(value, SessionRequest::Commit)),
+        "refresh" => Ok(on_session_from(value, SessionRequest::Refresh)),
+        "drop" => Ok(on_session_from(value, SessionRequest::Drop)),
         _ => Ok(None),
     }
 }
@@ -117,21 +117,23 @@ fn word_from(alloc: Global, value: &Value) -> Result<Option<Request>, Memory>
         return Ok(None);
     };
     match texts_of(alloc, value, "forms")? {
-        Some(forms) => Ok(Some(Request::Word {
+        Some(forms) => Ok(Some(Request::OnWiki(WikiRequest::Word {
             kind,
             forms: Text8s::from_vec(forms),
-        })),
+        }))),
         None => Ok(None),
     }
 }
 
-#[tactic(auto, unfolding(crate::specs::Requests::find_in))]
-fn find_from(alloc: Global, value: &Value) -> Result<Option<Request>, Memory>
-    ensures { IfOk result (λ request. request ≡ find_in (view value.now)) }
+// What is asked of a word.
+#[tactic(auto, unfolding(crate::specs::Requests::on_word_in))]
+fn on_word_from(alloc: Global, value: &Value, asked: WordRequest) -> Result<Option<Request>, Memory>
+    ensures { IfOk result (λ request. request ≡ on_word_in asked (view value.now)) }
 {
     match text_of(value, "word") {
-        Some(word) => Ok(Some(Request::Find {
+        Some(word) => Ok(Some(Request::OnWord {
             word: Text8::from_str(alloc, word)?,
+            asked,
         })),
         None => Ok(None),
     }
@@ -142,9 +144,9 @@ fn parse_from(alloc: Global, value: &Value) -> Result<Option<Request>, Memory>
     ensures { IfOk result (λ request. request ≡ parse_in (view value.now)) }
 {
     match text_of(value, "text") {
-        Some(text) => Ok(Some(Request::Parse {
+        Some(text) => Ok(Some(Request::OnWiki(WikiRequest::Parse {
             text: Text8::from_str(alloc, text)?,
-        })),
+        }))),
         None => Ok(None),
     }
 }
@@ -157,21 +159,11 @@ fn reword_from(alloc: Global, value: &Value) -> Result<Option<Request>, Memory>
         return Ok(None);
     };
     match texts_of(alloc, value, "forms")? {
-        Some(forms) => Ok(Some(Request::Reword {
+        Some(forms) => Ok(Some(Request::OnWord {
             word: Text8::from_str(alloc, word)?,
-            forms: Text8s::from_vec(forms),
-        })),
-        None => Ok(None),
-    }
-}
-
-#[tactic(auto, unfolding(crate::specs::Requests::unword_in))]
-fn unword_from(alloc: Global, value: &Value) -> Result<Option<Request>, Memory>
-    ensures { IfOk result (λ request. request ≡ unword_in (view value.now)) }
-{
-    match text_of(value, "word") {
-        Some(word) => Ok(Some(Request::Unword {
-            word: Text8::from_str(alloc, word)?,
+            asked: WordRequest::Reword {
+                forms: Text8s::from_vec(forms),
+            },
         })),
         None => Ok(None),
     }
@@ -182,9 +174,9 @@ fn grammar_from(alloc: Global, value: &Value) -> Result<Option<Request>, Memory>
     ensures { IfOk result (λ request. request ≡ grammar_in (view value.now)) }
 {
     match text_of(value, "text") {
-        Some(text) => Ok(Some(Request::Grammar {
+        Some(text) => Ok(Some(Request::OnWiki(WikiRequest::Grammar {
             text: Text8::from_str(alloc, text)?,
-        })),
+        }))),
         None => Ok(None),
     }
 }

@@ -1,13 +1,13 @@
 // The requests that speak of articles and sentences.
 ghost use Rattle.std.specs.Prelude.{◌≡◌, IfOk, option_map};
 ghost use Rattle.serde_json.specs.View.{view};
-ghost use Rattle.wire_json.specs.Requests.{number_of, number_at, number_if_at, place_in, add_in, edit_in, remove_in, retract_in, reassert_in, read_in, axioms_in};
+ghost use Rattle.wire_json.specs.Requests.{number_of, number_at, number_if_at, place_in, add_in, edit_in, remove_in, retract_in, reassert_in, on_article_in, axioms_in};
 
 use crate::read::text_of;
 use serde_json::Value;
 use std::alloc::Global;
 use wiki_base::{Memory, Text8};
-use wiki_talk::Request;
+use wiki_talk::{ArticleRequest, Request};
 
 #[tactic(auto, unfolding(crate::specs::Requests::add_in))]
 pub(crate) fn add_from(alloc: Global, value: &Value) -> Result<Option<Request>, Memory>
@@ -20,10 +20,12 @@ pub(crate) fn add_from(alloc: Global, value: &Value) -> Result<Option<Request>, 
         return Ok(None);
     };
     match text_of(value, "text") {
-        Some(text) => Ok(Some(Request::Add {
+        Some(text) => Ok(Some(Request::OnArticle {
             article: Text8::from_str(alloc, article)?,
-            at,
-            text: Text8::from_str(alloc, text)?,
+            asked: ArticleRequest::Add {
+                at,
+                text: Text8::from_str(alloc, text)?,
+            },
         })),
         None => Ok(None),
     }
@@ -37,10 +39,12 @@ pub(crate) fn edit_from(alloc: Global, value: &Value) -> Result<Option<Request>,
         return Ok(None);
     };
     match text_of(value, "text") {
-        Some(text) => Ok(Some(Request::Edit {
+        Some(text) => Ok(Some(Request::OnArticle {
             article,
-            at,
-            text: Text8::from_str(alloc, text)?,
+            asked: ArticleRequest::Edit {
+                at,
+                text: Text8::from_str(alloc, text)?,
+            },
         })),
         None => Ok(None),
     }
@@ -50,7 +54,10 @@ pub(crate) fn remove_from(alloc: Global, value: &Value) -> Result<Option<Request
     ensures { IfOk result (λ request. request ≡ remove_in (view value.now)) }
 {
     match place_from(alloc, value)? {
-        Some((article, at)) => Ok(Some(Request::Remove { article, at })),
+        Some((article, at)) => Ok(Some(Request::OnArticle {
+            article,
+            asked: ArticleRequest::Remove { at },
+        })),
         None => Ok(None),
     }
 }
@@ -59,7 +66,10 @@ pub(crate) fn retract_from(alloc: Global, value: &Value) -> Result<Option<Reques
     ensures { IfOk result (λ request. request ≡ retract_in (view value.now)) }
 {
     match place_from(alloc, value)? {
-        Some((article, at)) => Ok(Some(Request::Retract { article, at })),
+        Some((article, at)) => Ok(Some(Request::OnArticle {
+            article,
+            asked: ArticleRequest::Retract { at },
+        })),
         None => Ok(None),
     }
 }
@@ -68,7 +78,10 @@ pub(crate) fn reassert_from(alloc: Global, value: &Value) -> Result<Option<Reque
     ensures { IfOk result (λ request. request ≡ reassert_in (view value.now)) }
 {
     match place_from(alloc, value)? {
-        Some((article, at)) => Ok(Some(Request::Reassert { article, at })),
+        Some((article, at)) => Ok(Some(Request::OnArticle {
+            article,
+            asked: ArticleRequest::Reassert { at },
+        })),
         None => Ok(None),
     }
 }
@@ -77,18 +90,27 @@ pub(crate) fn axioms_from(alloc: Global, value: &Value) -> Result<Option<Request
     ensures { IfOk result (λ request. request ≡ axioms_in (view value.now)) }
 {
     match place_from(alloc, value)? {
-        Some((article, at)) => Ok(Some(Request::Axioms { article, at })),
+        Some((article, at)) => Ok(Some(Request::OnArticle {
+            article,
+            asked: ArticleRequest::Axioms { at },
+        })),
         None => Ok(None),
     }
 }
 
-#[tactic(auto, unfolding(crate::specs::Requests::read_in))]
-pub(crate) fn read_from(alloc: Global, value: &Value) -> Result<Option<Request>, Memory>
-    ensures { IfOk result (λ request. request ≡ read_in (view value.now)) }
+// What is asked of an article.
+#[tactic(auto, unfolding(crate::specs::Requests::on_article_in))]
+pub(crate) fn on_article_from(
+    alloc: Global,
+    value: &Value,
+    asked: ArticleRequest,
+) -> Result<Option<Request>, Memory>
+    ensures { IfOk result (λ request. request ≡ on_article_in asked (view value.now)) }
 {
     match text_of(value, "article") {
-        Some(article) => Ok(Some(Request::Read {
+        Some(article) => Ok(Some(Request::OnArticle {
             article: Text8::from_str(alloc, article)?,
+            asked,
         })),
         None => Ok(None),
     }

@@ -1,11 +1,11 @@
 // The lines of requests and replies.
-ghost use Rattle.std.specs.Prelude.{◌≡◌, IfOk, codes};
+ghost use Rattle.std.specs.Prelude.{◌≡◌, true, false, IfOk, codes};
 ghost use Rattle.serde_json.specs.Data.{boolean, string, number, unsigned, array, object, no_members, member};
 ghost use Rattle.serde_json.specs.View.{view};
 ghost use Rattle.wire_json.specs.Replies.{reply_value, done_value, tokens_value, told_article_value, reply_line, bad_request_value, bad_request_line};
 ghost use Rattle.wire_json.specs.Values.{menu_value, sentences_items};
 ghost use Rattle.wire_json.specs.Requests.{request_value, request_line, place_value, session_value};
-ghost use Rattle.wire_json.specs.Told.{gives_line};
+ghost use Rattle.wire_json.specs.Told.{fits_line, gives_line};
 
 use crate::line::line_of;
 use crate::refusals::refusal_value;
@@ -16,7 +16,10 @@ use serde_json::{Value, json};
 use std::alloc::Global;
 use wiki_base::{Memory, Text8};
 use wiki_io::MAX_LINE;
-use wiki_talk::{BAD_REQUEST, MenuView, Reply, Request, SentenceView, WordView, kind_name};
+use wiki_talk::{
+    ArticleRequest, BAD_REQUEST, MenuView, Reply, Request, SentenceView, SessionRequest,
+    WikiRequest, WordRequest, WordView, kind_name,
+};
 
 /// The line of a reply, with its newline.
 pub fn reply_line(alloc: Global, reply: &Reply) -> Result<Text8, Memory>
@@ -43,13 +46,26 @@ pub fn request_line(alloc: Global, request: &Request) -> Result<Text8, Memory>
 pub fn gives_line(alloc: Global, request: &Request) -> Result<bool, Memory>
     ensures { IfOk result (λ gives. gives ≡ gives_line request.now) }
 {
-    match request {
-        Request::Grammar { .. } => {
-            let line = request_line(alloc, request)?;
-            Ok(line.as_bytes().len() <= MAX_LINE)
-        }
-        _ => Ok(true),
+    if gives_grammar(request) {
+        fits_line(alloc, request)
+    } else {
+        Ok(true)
     }
+}
+
+// The request gives a grammar.
+fn gives_grammar(request: &Request) -> bool
+    ensures yes { result ≡ true → gives_line request.now ≡ fits_line request.now }
+    ensures no { result ≡ false → gives_line request.now ≡ true }
+{
+    matches!(request, Request::OnWiki(WikiRequest::Grammar { .. }))
+}
+
+fn fits_line(alloc: Global, request: &Request) -> Result<bool, Memory>
+    ensures { IfOk result (λ fits. fits ≡ fits_line request.now) }
+{
+    let line = request_line(alloc, request)?;
+    Ok(line.as_bytes().len() <= MAX_LINE)
 }
 
 fn bad_request_value(alloc: Global) -> Result<Value, Memory>
@@ -79,11 +95,11 @@ fn reply_value(alloc: Global, reply: &Reply) -> Result<Value, Memory>
             ..
         } => read_reply_value(alloc, *revision, sentences.as_slice()),
         Reply::Axioms { meant } => meant_value(alloc, meant),
-        Reply::Begin { session } => {
+        Reply::Open { session } => {
             let session = *session;
             Ok(json!(in alloc; {"done": "open", "session": session})?)
         }
-        Reply::Put { tokens } => tokens_value(alloc, "type", *tokens),
+        Reply::Type { tokens } => tokens_value(alloc, "type", *tokens),
         Reply::Back { tokens } => tokens_value(alloc, "back", *tokens),
         Reply::Menu { menu, whole, .. } => menu_reply_value(alloc, menu, *whole),
         Reply::Commit {
@@ -166,44 +182,78 @@ fn request_value(alloc: Global, request: &Request) -> Result<Value, Memory>
     ensures { IfOk result (λ value. view value ≡ request_value request.now) }
 {
     match request {
-        Request::Word { kind, forms } => word_request_value(alloc, *kind, forms.as_slice()),
-        Request::Find { word } => {
-            let word = word.as_str();
-            Ok(json!(in alloc; {"do": "find", "word": word})?)
-        }
-        Request::Words => Ok(json!(in alloc; {"do": "words"})?),
-        Request::Parse { text } => {
-            let text = text.as_str();
-            Ok(json!(in alloc; {"do": "parse", "text": text})?)
-        }
-        Request::Reword { word, forms } => reword_request_value(alloc, word, forms.as_slice()),
-        Request::Unword { word } => {
-            let word = word.as_str();
-            Ok(json!(in alloc; {"do": "unword", "word": word})?)
-        }
-        Request::Grammar { text } => {
-            let text = text.as_str();
-            Ok(json!(in alloc; {"do": "grammar", "text": text})?)
-        }
-        Request::Add { article, at, text } => add_request_value(alloc, article, *at, text),
-        Request::Edit { article, at, text } => edit_request_value(alloc, article, *at, text),
-        Request::Remove { article, at } => place_value(alloc, "remove", article, *at),
-        Request::Retract { article, at } => place_value(alloc, "retract", article, *at),
-        Request::Reassert { article, at } => place_value(alloc, "reassert", article, *at),
-        Request::Read { article } => article_value(alloc, "read", article),
-        Request::Axioms { article, at } => place_value(alloc, "axioms", article, *at),
-        Request::Begin { article } => article_value(alloc, "open", article),
-        Request::Put { session, text } => type_request_value(alloc, *session, text),
-        Request::Back { session } => session_value(alloc, "back", *session),
-        Request::Menu { session } => session_value(alloc, "menu", *session),
-        Request::Commit { session } => session_value(alloc, "commit", *session),
-        Request::Refresh { session } => session_value(alloc, "refresh", *session),
-        Request::Drop { session } => session_value(alloc, "drop", *session),
+        Request::OnWiki(asked) => on_wiki_value(alloc, asked),
+        Request::OnWord { word, asked } => on_word_value(alloc, word, asked),
+        Request::OnArticle { article, asked } => on_article_value(alloc, article, asked),
+        Request::OnSession { session, asked } => on_session_value(alloc, *session, asked),
     }
 }
 
+fn on_wiki_value(alloc: Global, asked: &WikiRequest) -> Result<Value, Memory>
+    ensures { IfOk result (λ value. view value ≡ request_value (Request.OnWiki asked.now)) }
+{
+    match asked {
+        WikiRequest::Word { kind, forms } => word_request_value(alloc, *kind, forms.as_slice()),
+        WikiRequest::Words => Ok(json!(in alloc; {"do": "words"})?),
+        WikiRequest::Parse { text } => {
+            let text = text.as_str();
+            Ok(json!(in alloc; {"do": "parse", "text": text})?)
+        }
+        WikiRequest::Grammar { text } => {
+            let text = text.as_str();
+            Ok(json!(in alloc; {"do": "grammar", "text": text})?)
+        }
+    }
+}
+
+fn on_word_value(alloc: Global, word: &Text8, asked: &WordRequest) -> Result<Value, Memory>
+    ensures { IfOk result (λ value. view value ≡ request_value (Request.OnWord word.now asked.now)) }
+{
+    match asked {
+        WordRequest::Find => form_value(alloc, "find", word),
+        WordRequest::Reword { forms } => reword_request_value(alloc, word, forms.as_slice()),
+        WordRequest::Unword => form_value(alloc, "unword", word),
+    }
+}
+
+fn on_article_value(alloc: Global, article: &Text8, asked: &ArticleRequest) -> Result<Value, Memory>
+    ensures { IfOk result (λ value. view value ≡ request_value (Request.OnArticle article.now asked.now)) }
+{
+    match asked {
+        ArticleRequest::Read => article_value(alloc, "read", article),
+        ArticleRequest::Add { at, text } => add_request_value(alloc, article, *at, text),
+        ArticleRequest::Edit { at, text } => edit_request_value(alloc, article, *at, text),
+        ArticleRequest::Remove { at } => place_value(alloc, "remove", article, *at),
+        ArticleRequest::Retract { at } => place_value(alloc, "retract", article, *at),
+        ArticleRequest::Reassert { at } => place_value(alloc, "reassert", article, *at),
+        ArticleRequest::Axioms { at } => place_value(alloc, "axioms", article, *at),
+        ArticleRequest::Open => article_value(alloc, "open", article),
+    }
+}
+
+fn on_session_value(alloc: Global, session: u32, asked: &SessionRequest) -> Result<Value, Memory>
+    ensures { IfOk result (λ value. view value ≡ request_value (Request.OnSession session asked.now)) }
+{
+    match asked {
+        SessionRequest::Type { text } => type_request_value(alloc, session, text),
+        SessionRequest::Back => session_value(alloc, "back", session),
+        SessionRequest::Menu => session_value(alloc, "menu", session),
+        SessionRequest::Commit => session_value(alloc, "commit", session),
+        SessionRequest::Refresh => session_value(alloc, "refresh", session),
+        SessionRequest::Drop => session_value(alloc, "drop", session),
+    }
+}
+
+// The line of a request for a word.
+fn form_value(alloc: Global, name: &str, word: &Text8) -> Result<Value, Memory>
+    ensures { IfOk result (λ value. view value ≡ object (member (codes "do") (string name.now) (member (codes "word") (string word.now) no_members))) }
+{
+    let word = word.as_str();
+    Ok(json!(in alloc; {"do": name, "word": word})?)
+}
+
 fn word_request_value(alloc: Global, kind: Kind, forms: &[Text8]) -> Result<Value, Memory>
-    ensures { IfOk result (λ value. view value ≡ request_value (Request.Word kind forms.now)) }
+    ensures { IfOk result (λ value. view value ≡ request_value (Request.OnWiki (WikiRequest.Word kind forms.now))) }
 {
     let forms = texts_value(alloc, forms)?;
     let kind = kind_name(kind);
@@ -211,7 +261,7 @@ fn word_request_value(alloc: Global, kind: Kind, forms: &[Text8]) -> Result<Valu
 }
 
 fn reword_request_value(alloc: Global, word: &Text8, forms: &[Text8]) -> Result<Value, Memory>
-    ensures { IfOk result (λ value. view value ≡ request_value (Request.Reword word.now forms.now)) }
+    ensures { IfOk result (λ value. view value ≡ request_value (Request.OnWord word.now (WordRequest.Reword forms.now))) }
 {
     let forms = texts_value(alloc, forms)?;
     let word = word.as_str();
@@ -224,7 +274,7 @@ fn add_request_value(
     at: Option<u32>,
     text: &Text8,
 ) -> Result<Value, Memory>
-    ensures { IfOk result (λ value. view value ≡ request_value (Request.Add article.now at text.now)) }
+    ensures { IfOk result (λ value. view value ≡ request_value (Request.OnArticle article.now (ArticleRequest.Add at text.now))) }
 {
     let article = article.as_str();
     let text = text.as_str();
@@ -240,7 +290,7 @@ fn edit_request_value(
     at: u32,
     text: &Text8,
 ) -> Result<Value, Memory>
-    ensures { IfOk result (λ value. view value ≡ request_value (Request.Edit article.now at text.now)) }
+    ensures { IfOk result (λ value. view value ≡ request_value (Request.OnArticle article.now (ArticleRequest.Edit at text.now))) }
 {
     let article = article.as_str();
     let text = text.as_str();
@@ -248,7 +298,7 @@ fn edit_request_value(
 }
 
 fn type_request_value(alloc: Global, session: u32, text: &Text8) -> Result<Value, Memory>
-    ensures { IfOk result (λ value. view value ≡ request_value (Request.Put session text.now)) }
+    ensures { IfOk result (λ value. view value ≡ request_value (Request.OnSession session (SessionRequest.Type text.now))) }
 {
     let text = text.as_str();
     Ok(json!(in alloc; {"do": "type", "session": session, "text": text})?)

@@ -1,14 +1,14 @@
 use Rattle.std.proofs.Common.{◌≡◌, Some, sym, ap, ◌∙◌}
 use Rattle.std.proofs.lemmas.Result.{IfOk-weaker}
 use Rattle.lexicon.specs.Words.{Listed, owner}
-use Rattle.wiki_parts.specs.Places.{word_named}
+use Rattle.plain_wiki.specs.Places.{word_named}
 use Rattle.retelling.specs.Why.{IsAnswerCaseOf, TellsCase}
 use Rattle.retelling.proofs.CaseLemmas.{of_words}
 use Rattle.retelling.proofs.cases.of_answer.Goals as goal
 
 pub returns-in-Some-find : goal.returns-in-Some-find
 returns-in-Some-find c =
-    let state = c.args.wiki.now.state.pages in
+    let state = c.args.wiki.now.state.stored in
     let form = c.args.form.now in
     let name = c.args.name.now in
     let named : word_named state form ≡ Some c.in-Some.word =

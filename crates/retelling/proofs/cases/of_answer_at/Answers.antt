@@ -10,7 +10,7 @@ use Rattle.retelling.proofs.cases.of_answer_at.Goals as goal
 
 pub returns : goal.returns
 returns c =
-    let state = c.args.wiki.now.state.pages in
+    let state = c.args.wiki.now.state.stored in
     let word = c.args.word in
     let at = c.args.at in
     let meant : IsMeaningAt state word at c.in-Some.meaning =

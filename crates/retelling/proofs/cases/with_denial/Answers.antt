@@ -8,7 +8,7 @@ use Rattle.logic_terms.specs.Shown.{concept_of}
 use Rattle.explain.specs.declared.part.Part.{Part}
 use Rattle.explain.specs.Answers.{claims_in}
 use Rattle.wiki_core.specs.Parts.{place_of}
-use Rattle.wiki_parts.specs.Knowledge.{live_names}
+use Rattle.plain_wiki.specs.Knowledge.{live_names}
 use Rattle.retelling.specs.Cases.{TellsCounted}
 use Rattle.retelling.specs.Why.{TellsOf}
 use Rattle.retelling.proofs.CaseLemmas.{denial_over, denial_plain}
@@ -17,7 +17,7 @@ use Rattle.retelling.proofs.cases.with_denial.Goals as goal
 
 pub explained-requires-clause-over : goal.explained-requires-clause-over
 explained-requires-clause-over c =
-    let names = live_names c.args.wiki.now.state.pages.words in
+    let names = live_names c.args.wiki.now.state.stored.words in
     let concept = concept_of c.args.class.now in
     let parts = c.in_ok-parts.parts in
     let added : c.as_slice.result.now ≡ parts ++ c.in_ok-denial.field-0 ∷ [] = c.as_slice.ensures ∙ c.in_ok-push.ensures.ok in
@@ -36,7 +36,7 @@ explained-requires-clause-plain c =
 
 pub returns : goal.returns
 returns c =
-    let state = c.args.wiki.now.state.pages in
+    let state = c.args.wiki.now.state.stored in
     let claims : List Claim = ClassAssertion (complement (concept_of c.args.class.now)) c.args.name ∷ [] in
     let parts = c.in_ok-parts.parts in
     let added : c.as_slice.result.now ≡ parts ++ c.in_ok-denial.field-0 ∷ [] = c.as_slice.ensures ∙ c.in_ok-push.ensures.ok in

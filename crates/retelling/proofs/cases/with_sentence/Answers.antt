@@ -11,7 +11,7 @@ use Rattle.retelling.proofs.cases.with_sentence.Goals as goal
 
 pub returns : goal.returns
 returns c =
-    let state = c.args.wiki.now.state.pages in
+    let state = c.args.wiki.now.state.stored in
     let budget = c.args.budget in
     let parts = c.in_ok-parts.parts in
     let taken : Option Place = Some (record { article = c.args.word; at = c.args.at }) in

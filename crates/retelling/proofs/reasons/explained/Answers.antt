@@ -12,7 +12,7 @@ use Rattle.retelling.proofs.reasons.explained.Goals as goal
 
 pub returns-in-Reason : goal.returns-in-Reason
 returns-in-Reason c =
-    let state = c.args.wiki.now.state.pages in
+    let state = c.args.wiki.now.state.stored in
     let places = map place_of (take c.args.count c.args.parts.now) in
     let finite : All (λ m. IsFiniteModel (kept_interp m) (kept_claims m)) c.in-Reason.models =
     subst (All (λ m. IsFiniteModel (kept_interp m) (kept_claims m))) c.as_slice.ensures c.are_models.ensures in

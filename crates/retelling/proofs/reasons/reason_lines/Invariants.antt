@@ -5,4 +5,4 @@ use Rattle.retelling.proofs.reasons.reason_lines.Given as goal
 
 -- the lines of those so far
 abbrev pub invariant-loop-place : goal.invariant-loop-place
-invariant-loop-place l = l.lines ≡ reason_lines l.wiki.state.pages (map place_of l.sentences) (take l.place-index l.kept)
+invariant-loop-place l = l.lines ≡ reason_lines l.wiki.state.stored (map place_of l.sentences) (take l.place-index l.kept)

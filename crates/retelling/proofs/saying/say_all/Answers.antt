@@ -8,7 +8,7 @@ use Rattle.retelling.proofs.saying.say_all.Goals as goal
 
 pub returns : goal.returns
 returns c =
-    let state = c.args.wiki.now.state.pages in
+    let state = c.args.wiki.now.state.stored in
     let claims = claims_of c.asserted.result.now in
     IfOk-weaker c.lines_of.result _ (SaysAll state)
     (λ lines are. record {

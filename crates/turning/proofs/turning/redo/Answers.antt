@@ -3,9 +3,9 @@ use Rattle.std.proofs.lemmas.Option.{same_Some}
 use Rattle.articles.specs.Articles.{CanChange}
 use Rattle.history.specs.declared.kept.Kept.{Kept}
 use Rattle.owl_eval.specs.Checked.{kept_claims}
-use Rattle.wiki_parts.specs.Knowledge.{Knows}
+use Rattle.plain_wiki.specs.Knowledge.{Knows}
 use Rattle.wiki_store.specs.PuttingBack.{with_sentences, IsOfArticle}
-use Rattle.wiki_core.specs.Holding.{pages_held}
+use Rattle.wiki_core.specs.Holding.{store_held}
 use Rattle.wiki_core.specs.PuttingBack.{put_back}
 use Rattle.turning.proofs.TurnLemmas.{has_nothing, newest_there, at_last, can_first, from_can, onto_can}
 use Rattle.turning.proofs.turning.redo.Goals as goal
@@ -15,7 +15,7 @@ returns-in_default-clause-turn c = (inl (has_nothing c.args.history.now.future (
 
 pub is_at_last_revision-requires : goal.is_at_last_revision-requires
 is_at_last_revision-requires c =
-    newest_there c.args.wiki.now.state.pages c.args.history.now.future c.requires.1 c.in-Some.next.now (sym c.in-Some.ensures)
+    newest_there c.args.wiki.now.state.stored c.args.history.now.future c.requires.1 c.in-Some.next.now (sym c.in-Some.ensures)
 
 pub returns-then-is_at_last_revision-clause-turn : goal.returns-then-is_at_last_revision-clause-turn
 returns-then-is_at_last_revision-clause-turn c =
@@ -29,7 +29,7 @@ returns-then-is_at_last_revision-clause-turn c =
 
 pub model_of-requires : goal.model_of-requires
 model_of-requires c =
-    can_first c.args.wiki.now c.args.wiki.now c.args.history.now.future c.args.history.now.past c.requires.1 c.requires.0 c.is_kept.ensures.pages.in_order
+    can_first c.args.wiki.now c.args.wiki.now c.args.history.now.future c.args.history.now.past c.requires.1 c.requires.0 c.is_kept.ensures.stored.in_order
     c.in-Some.next.now (sym c.in-Some.ensures)
 
 pub returns-clause-fits : goal.returns-clause-fits
@@ -38,13 +38,13 @@ returns-clause-fits c =
     let before = c.in-Some-redone.after in
     let same : c.in-Some.next.now ≡ before =
     same_Some c.in-Some.next.now before (c.in-Some.ensures ∙ sym c.in-Some-redone.ensures.entry) in
-    let can : CanChange old.state.pages.articles before.article =
-    subst (λ (kept : Kept). CanChange old.state.pages.articles kept.article) same (c.is_at_last_revision.ensures.no c.if-is_at_last_revision.false) in
+    let can : CanChange old.state.stored.articles before.article =
+    subst (λ (kept : Kept). CanChange old.state.stored.articles kept.article) same (c.is_at_last_revision.ensures.no c.if-is_at_last_revision.false) in
     let put : c.put_back-done.new.self ≡ put_back old before = c.put_back-done.ensures.done (c.put_back-done.ensures.exactly.1 can) in
-    let is : IsOfArticle (pages_held old) before.article c.in_ok-now.now =
-    subst (λ (kept : Kept). IsOfArticle (pages_held old) kept.article c.in_ok-now.now) same c.in_ok-now.ensures in
+    let is : IsOfArticle (store_held old) before.article c.in_ok-now.now =
+    subst (λ (kept : Kept). IsOfArticle (store_held old) kept.article c.in_ok-now.now) same c.in_ok-now.ensures in
     let newest = sym c.in-Some-redone.ensures.entry in
-    let ordered = c.is_kept.ensures.pages.in_order in
+    let ordered = c.is_kept.ensures.stored.in_order in
     rw c.in-Some-redone.ensures.history (
       onto_can old c.put_back-done.new.self c.args.history.now.future c.args.history.now.past c.requires.1 c.requires.0 ordered before newest c.in_ok-now.now is
           put,
@@ -62,10 +62,10 @@ pub put_back-done-requires-clause-known : goal.put_back-done-requires-clause-kno
 put_back-done-requires-clause-known c =
     let same : c.in-Some.next.now ≡ c.in-Some-redone.after =
     same_Some c.in-Some.next.now c.in-Some-redone.after (c.in-Some.ensures ∙ sym c.in-Some-redone.ensures.entry) in
-    subst (λ (kept : Kept). Knows (with_sentences c.args.wiki.now.state.pages kept.article kept.sentences) (kept_claims c.in_ok-model.model)) same
+    subst (λ (kept : Kept). Knows (with_sentences c.args.wiki.now.state.stored kept.article kept.sentences) (kept_claims c.in_ok-model.model)) same
     c.in_ok-model.ensures.known
 
 pub put_back-done-requires-clause-can : goal.put_back-done-requires-clause-can
 put_back-done-requires-clause-can c =
-    can_first c.args.wiki.now c.args.wiki.now c.args.history.now.future c.args.history.now.past c.requires.1 c.requires.0 c.is_kept.ensures.pages.in_order
+    can_first c.args.wiki.now c.args.wiki.now c.args.history.now.future c.args.history.now.past c.requires.1 c.requires.0 c.is_kept.ensures.stored.in_order
     c.in-Some-redone.after (sym c.in-Some-redone.ensures.entry)

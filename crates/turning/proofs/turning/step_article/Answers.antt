@@ -12,7 +12,7 @@ returns-clause-history c =
     (recalling c.step.new.self c.if-not-is_refused.history)) [
       | then-not-is_refused w ↦
           rw (w.history-is, w.note.ensures)
-          (carries_noted c.args.wiki.now c.step.new.self c.args.history.now c.requires.fits c.is_kept.ensures.pages.in_order c.args.request.now
+          (carries_noted c.args.wiki.now c.step.new.self c.args.history.now c.requires.fits c.is_kept.ensures.stored.in_order c.args.request.now
           c.in_ok-reply.reply c.in_ok-reply.ensures.step c.args.word c.requires.changed c.in_ok-before.before c.in_ok-before.ensures
           (sym c.is_refused.ensures ∙ w.if-not-is_refused.true) c.requires.words)
       | else-not-is_refused w ↦
@@ -23,14 +23,14 @@ returns-clause-history c =
 
 pub returns-clause-fits : goal.returns-clause-fits
 returns-clause-fits c =
-    elim c.if-not-is_refused.branch as (λ _. FitsHistory c.step.new.self.state.pages c.if-not-is_refused.history) [
+    elim c.if-not-is_refused.branch as (λ _. FitsHistory c.step.new.self.state.stored c.if-not-is_refused.history) [
       | then-not-is_refused w ↦
           rw (w.history-is, w.note.ensures)
-          (noted_fits c.args.wiki.now c.step.new.self c.args.history.now c.requires.fits c.is_kept.ensures.pages.in_order c.args.request.now
+          (noted_fits c.args.wiki.now c.step.new.self c.args.history.now c.requires.fits c.is_kept.ensures.stored.in_order c.args.request.now
           c.in_ok-reply.reply c.in_ok-reply.ensures.step c.args.word c.requires.changed c.in_ok-before.before c.in_ok-before.ensures
           (sym c.is_refused.ensures ∙ w.if-not-is_refused.true))
       | else-not-is_refused w ↦
           rw w.history-is
-          (refused_fits c.args.wiki.now c.step.new.self c.args.history.now c.requires.fits c.is_kept.ensures.pages.in_order c.args.request.now
+          (refused_fits c.args.wiki.now c.step.new.self c.args.history.now c.requires.fits c.is_kept.ensures.stored.in_order c.args.request.now
           c.in_ok-reply.reply c.in_ok-reply.ensures.step (sym c.is_refused.ensures ∙ w.if-not-is_refused.false))
     ]

@@ -1,5 +1,6 @@
 use Rattle.std.proofs.Common.{◌≡◌, List, [], refl, sym, ap, subst, ◌∙◌}
-use Rattle.sessions.specs.Sessions.{PlainSession, all_plain, with_change, with_tokens, with_revision, HasSession}
+use Rattle.plain_wiki.specs.Sessions.{PlainSession, with_change, with_tokens, with_revision, HasSession}
+use Rattle.sessions.specs.Sessions.{all_plain}
 use Rattle.wiki_core.proofs.KeyLaws.{changed_twice}
 use Rattle.wiki_core.proofs.HeldLemmas.{has_changed}
 use Rattle.wiki_core.proofs.committing.begin_again.Goals as goal

@@ -3,13 +3,13 @@ use Rattle.std.proofs.lemmas.List.Elements.{All-contains_itself}
 use Rattle.wiki_base.specs.declared.numbers.WordId.{WordId}
 use Rattle.logic_terms.specs.Concept.{Concept, Claim}
 use Rattle.answers.specs.Answered.{denied, IsUnknown}
-use Rattle.wiki_parts.specs.Knowledge.{IsCutOff}
+use Rattle.wiki_parts.specs.Spending.{IsCutOff}
 use Rattle.wiki_parts.proofs.NameLemmas.{rise_pairs}
 use Rattle.wiki_parts.proofs.answering.answers_of.Goals as goal
 
 -- a name of which it isn't known is one whose search was cut off
 cut_off : (claims : List Claim) (names : List WordId) (budget : ℕ) (concept : Concept) (unknown : List WordId)
-    → All (IsUnknown claims names budget concept) unknown → All (λ name. IsCutOff (denied claims concept name) names budget) unknown
+    → All (IsUnknown claims names budget concept) unknown → All (λ name. IsCutOff budget (denied claims concept name) names) unknown
 cut_off claims names budget concept unknown all k d within =
     let one : IsUnknown claims names budget concept (get_or unknown k d) = all k d within in
     record { knowledge = one.knowledge; absorbed = one.absorbed; longer = one.longer }

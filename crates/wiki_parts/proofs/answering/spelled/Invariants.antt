@@ -1,5 +1,5 @@
 use Rattle.std.proofs.Common.{◌≡◌, take}
-use Rattle.wiki_parts.specs.Telling.{spelled}
+use Rattle.plain_wiki.specs.Telling.{spelled}
 use Rattle.wiki_parts.proofs.answering.spelled.Given as goal
 
 -- the forms of the words so far

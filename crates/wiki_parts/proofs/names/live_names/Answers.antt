@@ -1,6 +1,6 @@
 use Rattle.std.proofs.Common.{◌≡◌, ◌+◌, ◌<◌, Bool, true, false, cond, List, [], ◌∷◌, ◌++◌, All, take, append-nil, sym, ap, subst, ◌∙◌}
 use Rattle.wiki_base.specs.declared.numbers.WordId.{WordId}
-use Rattle.wiki_parts.specs.Knowledge.{is_name}
+use Rattle.plain_wiki.specs.Knowledge.{is_name}
 use Rattle.wiki_parts.proofs.NameLemmas.{names_among, names_more, names_below}
 use Rattle.wiki_parts.proofs.names.live_names.Goals as goal
 use Rattle.wiki_parts.proofs.names.live_names.Goals.{then-is_name+in_ok-push, else-is_name}

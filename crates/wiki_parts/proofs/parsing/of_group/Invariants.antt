@@ -1,5 +1,5 @@
 use Rattle.std.proofs.Common.{◌≡◌, take}
-use Rattle.wiki_parts.specs.Parsing.{of_group}
+use Rattle.plain_wiki.specs.Parsing.{of_group}
 use Rattle.wiki_parts.proofs.parsing.of_group.Given as goal
 
 -- the tokens so far

@@ -1,6 +1,6 @@
 use Rattle.std.proofs.Common.{◌≡◌, take, map}
 use Rattle.lexicon.specs.declared.words.Word.{Word}
-use Rattle.wiki_parts.specs.Words.{told_word}
+use Rattle.plain_wiki.specs.Words.{told_word}
 use Rattle.wiki_parts.proofs.told.told_words.Given as goal
 
 -- the words so far

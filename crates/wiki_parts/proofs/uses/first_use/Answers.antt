@@ -2,8 +2,8 @@ use Rattle.std.proofs.Common.{◌≡◌, ◌+◌, ◌≤◌, length, subst, sym,
 use Rattle.std.specs.Option.{option_or}
 use Rattle.wiki_talk.specs.declared.limits.TheConstants.{MOST_SENTENCES}
 use Rattle.articles.specs.declared.article.Article.{Article}
-use Rattle.wiki_parts.specs.Places.{placed_in, all_placed, told_place}
-use Rattle.wiki_parts.specs.Refusing.{uses_word}
+use Rattle.plain_wiki.specs.Places.{placed_in, all_placed, told_place}
+use Rattle.plain_wiki.specs.Causes.{uses_word}
 use Rattle.wiki_parts.proofs.UseLemmas.{place_in, found-word, find-next, first-found, second-found}
 use Rattle.wiki_parts.proofs.uses.first_use.Goals as goal
 

@@ -1,6 +1,6 @@
 use Rattle.std.proofs.Common.{◌≡◌, drop, find}
-use Rattle.wiki_parts.specs.Places.{all_placed}
-use Rattle.wiki_parts.specs.Refusing.{uses_word}
+use Rattle.plain_wiki.specs.Places.{all_placed}
+use Rattle.plain_wiki.specs.Causes.{uses_word}
 use Rattle.wiki_parts.proofs.uses.first_use.Given as goal
 
 -- the first use is the first of what is left

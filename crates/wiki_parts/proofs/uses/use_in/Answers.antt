@@ -1,6 +1,6 @@
 use Rattle.std.proofs.Common.{sym, ap, ◌∙◌, option_map}
-use Rattle.wiki_parts.specs.Places.{Placed}
-use Rattle.wiki_parts.specs.Refusing.{uses_word}
+use Rattle.plain_wiki.specs.Places.{Placed}
+use Rattle.plain_wiki.specs.Causes.{uses_word}
 use Rattle.wiki_parts.proofs.UseLemmas.{find-here, find-past}
 use Rattle.wiki_parts.proofs.uses.use_in.Goals as goal
 

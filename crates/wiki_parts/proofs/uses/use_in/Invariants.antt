@@ -1,6 +1,6 @@
 use Rattle.std.proofs.Common.{◌≡◌, ◌≤◌, drop, find}
-use Rattle.wiki_parts.specs.Places.{placed_in, placed_from}
-use Rattle.wiki_parts.specs.Refusing.{uses_word}
+use Rattle.plain_wiki.specs.Places.{placed_in, placed_from}
+use Rattle.plain_wiki.specs.Causes.{uses_word}
 use Rattle.wiki_parts.proofs.uses.use_in.Given as goal
 
 -- the first use is the first of what is left

@@ -2,7 +2,7 @@ use Rattle.std.proofs.Common.{ap, ◌∙◌}
 use Rattle.std.proofs.lemmas.Result.{err_from_is_err_and, IfErr-weaker, on_ok_weaker}
 use Rattle.lexicon.specs.declared.kinds.Forms.{Forms}
 use Rattle.lexicon.specs.Suggest.{form_texts}
-use Rattle.wiki_parts.specs.Words.{word_refusal}
+use Rattle.plain_wiki.specs.Words.{word_refusal}
 use Rattle.wiki_parts.proofs.CauseLemmas.{IsCause-first, IsCause-next}
 use Rattle.wiki_parts.proofs.words.add_word.Goals as goal
 

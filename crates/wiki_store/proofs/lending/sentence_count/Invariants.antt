@@ -1,5 +1,5 @@
 use Rattle.std.proofs.Common.{◌≡◌, ◌+◌, length, drop}
-use Rattle.wiki_parts.specs.Knowledge.{sentences_in}
+use Rattle.plain_wiki.specs.Knowledge.{sentences_in}
 use Rattle.wiki_store.proofs.lending.sentence_count.Given as goal
 
 -- the sentences so far, and those of the articles that are left

@@ -2,10 +2,9 @@ use Rattle.std.proofs.Common.{◌≡◌, ◌≤◌, List, Some, None, length, ap
 use Rattle.std.specs.List.{slice_get}
 use Rattle.wiki_base.proofs.ListLaws.{slice_get_at}
 use Rattle.articles.specs.declared.sentences.Sentence.{Sentence}
-use Rattle.wiki_parts.specs.Places.{placed_in}
-use Rattle.wiki_parts.specs.Refusing.{KeepsMeaning}
-use Rattle.wiki_store.proofs.FindLemmas.{as_many_sense}
-use Rattle.wiki_store.proofs.FindLemmas.{told_broken, still_kept, no_place, none_left}
+use Rattle.plain_wiki.specs.Places.{placed_in}
+use Rattle.plain_wiki.specs.Causes.{KeepsMeaning}
+use Rattle.wiki_store.proofs.FindLemmas.{as_many_sense, told_broken, still_kept, no_place, none_left}
 use Rattle.wiki_store.proofs.rewording.broken_in.Goals as goal
 
 pub returns-then-not-kept : goal.returns-then-not-kept

@@ -6,8 +6,8 @@ use Rattle.wiki_store.proofs.JudgeLemmas.{all-in-at}
 use Rattle.articles.specs.declared.sentences.Sentence.{Sentence}
 use Rattle.wiki_parts.specs.declared.meanings.Sense.{Sense}
 use Rattle.wiki_parts.specs.Kept.{MeanEach, meanings_in}
-use Rattle.wiki_parts.specs.Places.{placed_in, all_placed}
-use Rattle.wiki_parts.specs.Refusing.{KeepsMeaning}
+use Rattle.plain_wiki.specs.Places.{placed_in, all_placed}
+use Rattle.plain_wiki.specs.Causes.{KeepsMeaning}
 use Rattle.wiki_store.proofs.AroundLemmas.{mean_at}
 use Rattle.wiki_store.proofs.KeepingLemmas.{as_many_lists}
 use Rattle.wiki_store.proofs.FindLemmas.{found_place, passed_place, next_whole, no_place, none_left_in}

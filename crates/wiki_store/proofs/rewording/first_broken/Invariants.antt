@@ -3,8 +3,8 @@ use Rattle.std.specs.Option.{option_copied}
 use Rattle.codeco_terms.specs.GrammarParts.{GrammarParts}
 use Rattle.lexicon.specs.Words.{Listed}
 use Rattle.wiki_parts.specs.Kept.{MeanInEach}
-use Rattle.wiki_parts.specs.Places.{Placed, all_placed}
-use Rattle.wiki_parts.specs.Refusing.{KeepsMeaning}
+use Rattle.plain_wiki.specs.Places.{Placed, all_placed}
+use Rattle.plain_wiki.specs.Causes.{KeepsMeaning}
 use Rattle.wiki_store.specs.Rewording.{PassesOthers, Finds}
 use Rattle.wiki_store.proofs.rewording.first_broken.Given as goal
 

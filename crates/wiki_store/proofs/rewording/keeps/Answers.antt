@@ -3,7 +3,7 @@ use Rattle.std.specs.Option.{MatchOption, option_copied}
 use Rattle.derivation_trees.specs.Sentences.{IsSentence}
 use Rattle.wiki_parts.specs.declared.meanings.Sense.{Sense}
 use Rattle.wiki_parts.specs.Found.{meaning_shown}
-use Rattle.wiki_parts.specs.Meanings.{Means}
+use Rattle.plain_wiki.specs.Meanings.{Means}
 use Rattle.wiki_store.specs.Sameness.{same_meaning}
 use Rattle.wiki_store.proofs.FindLemmas.{told_kept, passed_keeps}
 use Rattle.wiki_store.proofs.rewording.keeps.Goals as goal

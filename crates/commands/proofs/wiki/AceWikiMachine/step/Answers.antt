@@ -7,6 +7,7 @@ pub returns-clause-step : goal.returns-clause-step
 returns-clause-step c =
     let kept : KeptStep c.self.inside.wiki c.args.request.now c.in_ok-reply.reply c.step.new.self = record {
       step = c.in_ok-reply.ensures.step;
+      budget = c.step.ensures.budget;
       spent = c.in_ok-reply.ensures.spent;
       unknown = c.in_ok-reply.ensures.unknown;
       interpretation = c.in_ok-reply.ensures.interpretation;

@@ -2,7 +2,7 @@ use Rattle.std.proofs.Common.{◌≡◌, ℕ, ◌-◌, ◌<◌, List, [], length
 use Rattle.chart.proofs.DropLemmas.{dropped_kept}
 use Rattle.derivation_trees.specs.Settings.{Setting}
 use Rattle.editor.proofs.EditingLemmas.{edited_back}
-use Rattle.sessions.specs.Sessions.{PlainSession, with_tokens}
+use Rattle.plain_wiki.specs.Sessions.{PlainSession, with_tokens}
 use Rattle.sessions.proofs.ChangeLemmas.{holds_at, kept_at, edited_at, change_is, kept_after, same_after, still_sessions, plain_edited}
 use Rattle.sessions.proofs.sessions.Sessions.back.Goals as goal
 

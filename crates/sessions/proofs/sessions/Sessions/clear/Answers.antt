@@ -1,7 +1,7 @@
 use Rattle.std.proofs.Common.{[], refl, ap}
 use Rattle.derivation_trees.specs.Settings.{Setting}
 use Rattle.editor.proofs.EditingLemmas.{edited_less, nothing_kept}
-use Rattle.sessions.specs.Sessions.{with_tokens}
+use Rattle.plain_wiki.specs.Sessions.{with_tokens}
 use Rattle.sessions.proofs.ChangeLemmas.{kept_at, edited_at, change_is, kept_after, still_sessions, plain_edited}
 use Rattle.sessions.proofs.sessions.Sessions.clear.Goals as goal
 

@@ -1,7 +1,8 @@
 use Rattle.std.proofs.Common.{◌≡◌, ◌∙◌, List, Bool, filter, not, eqb, ap, subst, sym, rules}
 use Rattle.std.proofs.lemmas.Fn.{filter_same}
 use Rattle.sessions.specs.declared.session.Session.{Session}
-use Rattle.sessions.specs.Sessions.{all_plain, without_article, AreKept, AreSessions}
+use Rattle.plain_wiki.specs.Sessions.{without_article}
+use Rattle.sessions.specs.Sessions.{all_plain, AreKept, AreSessions}
 use Rattle.sessions.proofs.ChangeLemmas.{filtered_is, filtered_sessions, kept_filtered}
 use Rattle.sessions.proofs.sessions.Sessions.end_on.Goals as goal
 

@@ -2,7 +2,8 @@ use Rattle.std.proofs.Common.{◌<◌, List, [], length, All, subst, sym}
 use Rattle.editor.proofs.EditingLemmas.{kept_on}
 use Rattle.sessions.specs.declared.session.Session.{Session}
 use Rattle.wiki_talk.specs.declared.limits.TheConstants.{MOST_SESSIONS}
-use Rattle.sessions.specs.Sessions.{PlainSession, all_plain, AreKept, AreSessions}
+use Rattle.plain_wiki.specs.Sessions.{PlainSession}
+use Rattle.sessions.specs.Sessions.{all_plain, AreKept, AreSessions}
 use Rattle.sessions.proofs.ChangeLemmas.{opened_sessions, opened_kept}
 use Rattle.sessions.proofs.sessions.Sessions.open.Goals as goal
 

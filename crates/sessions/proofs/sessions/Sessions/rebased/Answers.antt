@@ -2,7 +2,8 @@ use Rattle.std.proofs.Common.{◌≡◌, ◌∙◌, ◌+◌, List, [], ◌∷◌
 use Rattle.std.proofs.lemmas.List.{take_more}
 use Rattle.editor.specs.Editing.{IsEdited}
 use Rattle.sessions.specs.declared.session.Session.{Session}
-use Rattle.sessions.specs.Sessions.{all_plain, AreKept, AreRebased, AreOfGrammar}
+use Rattle.plain_wiki.specs.Sessions.{AreRebased}
+use Rattle.sessions.specs.Sessions.{all_plain, AreKept, AreOfGrammar}
 use Rattle.sessions.proofs.ChangeLemmas.{opened_kept, opened_edited, rebased_more, rebased_whole, rebased_sessions}
 use Rattle.sessions.proofs.sessions.Sessions.rebased.Goals as goal
 

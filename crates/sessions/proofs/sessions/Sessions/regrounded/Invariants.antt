@@ -1,7 +1,8 @@
 use Rattle.std.proofs.Common.{take, All}
 use Rattle.editor.specs.Editing.{IsEdited}
 use Rattle.sessions.specs.declared.session.Session.{Session}
-use Rattle.sessions.specs.Sessions.{all_plain, AreRebased, AreKept}
+use Rattle.plain_wiki.specs.Sessions.{AreRebased}
+use Rattle.sessions.specs.Sessions.{all_plain, AreKept}
 use Rattle.sessions.proofs.sessions.Sessions.regrounded.Given as goal
 
 -- the sessions so far are rebased

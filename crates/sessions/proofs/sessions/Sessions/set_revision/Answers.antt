@@ -1,5 +1,5 @@
 use Rattle.std.proofs.Common.{refl}
-use Rattle.sessions.specs.Sessions.{with_revision}
+use Rattle.plain_wiki.specs.Sessions.{with_revision}
 use Rattle.sessions.proofs.ChangeLemmas.{kept_at, edited_at, change_is, kept_after, still_sessions}
 use Rattle.sessions.proofs.sessions.Sessions.set_revision.Goals as goal
 

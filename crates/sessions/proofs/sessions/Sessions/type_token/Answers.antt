@@ -4,7 +4,7 @@ use Rattle.wiki_base.specs.declared.tokens.TheConstants.{MOST_TOKENS}
 use Rattle.derivation_trees.specs.Settings.{Setting}
 use Rattle.editor.specs.Editing.{typed, IsInMenu}
 use Rattle.editor.proofs.EditingLemmas.{typed_edited, typed_kept}
-use Rattle.sessions.specs.Sessions.{PlainSession, with_tokens}
+use Rattle.plain_wiki.specs.Sessions.{PlainSession, with_tokens}
 use Rattle.sessions.proofs.ChangeLemmas.{fact_at, holds_at, kept_at, edited_at, change_is, kept_after, same_after, still_sessions, plain_edited}
 use Rattle.sessions.proofs.sessions.Sessions.type_token.Goals as goal
 

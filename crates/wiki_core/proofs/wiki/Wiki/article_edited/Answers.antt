@@ -2,8 +2,9 @@ use Rattle.std.proofs.Common.{◌≡◌, ◌≤◌, Some, is_some, sym, ap, subs
 use Rattle.std.proofs.lemmas.Bool.{false≢true}
 use Rattle.std.proofs.lemmas.Option.{same_Some}
 use Rattle.articles.specs.declared.article.Article.{Article}
-use Rattle.sessions.specs.Sessions.{plain, all_plain, session_of}
-use Rattle.wiki_core.specs.Causes.{session_numbered}
+use Rattle.plain_wiki.specs.Sessions.{session_of}
+use Rattle.sessions.specs.Sessions.{plain, all_plain}
+use Rattle.plain_wiki.specs.Places.{session_numbered}
 use Rattle.wiki_core.specs.Holding.{Holding}
 use Rattle.wiki_core.proofs.HeldLemmas.{on_there}
 use Rattle.wiki_core.proofs.wiki.Wiki.article_edited.Goals as goal

@@ -6,5 +6,6 @@ use Rattle.wiki_core.proofs.wiki.Wiki.is_kept.Goals as goal
 pub returns : goal.returns
 returns c =
     subst IsKept c.self.view_is
-    (is_kept c.self.inside.store.state c.self.inside.store.interpretation c.self.inside.sessions c.self.inside.last c.is_kept.ensures c.as_slice.ensures.order
+    (is_kept c.self.inside.store.state c.self.inside.store.budget c.self.inside.store.interpretation c.self.inside.sessions c.self.inside.last c.is_kept.ensures
+    c.as_slice.ensures.order
     c.self.invariant)

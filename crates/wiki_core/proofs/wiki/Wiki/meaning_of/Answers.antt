@@ -2,13 +2,13 @@ use Rattle.std.proofs.Common.{ℕ, List, subst}
 use Rattle.codeco_terms.specs.GrammarParts.{GrammarParts}
 use Rattle.lexicon.specs.Words.{Listed}
 use Rattle.wiki_parts.specs.Found.{meaning_shown}
-use Rattle.wiki_parts.specs.Meanings.{Means}
+use Rattle.plain_wiki.specs.Meanings.{Means}
 use Rattle.wiki_core.proofs.PartLemmas.{matched, fit_class}
 use Rattle.wiki_core.proofs.wiki.Wiki.meaning_of.Goals as goal
 
 pub returns : goal.returns
 returns c =
-    let state = c.args.self.now.state.pages in
+    let state = c.args.self.now.state.stored in
     let tokens = c.args.sentence.now.tokens in
     let meaning = meaning_shown c.in-Some.sense in
     let means : Means state.grammar state.words tokens meaning =

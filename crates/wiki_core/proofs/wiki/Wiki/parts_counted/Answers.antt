@@ -9,12 +9,12 @@ use Rattle.wiki_core.proofs.wiki.Wiki.parts_counted.Goals as goal
 
 pub returns : goal.returns
 returns c =
-    let state = c.args.self.now.state.pages in
+    let state = c.args.self.now.state.stored in
     let parts = c.push_articles.new.parts in
     let senses = c.senses.result.now in
     let mean : MeanInEach state.grammar state.words state.articles senses =
-    subst (λ (h : Holding). MeanInEach h.state.pages.grammar h.state.pages.words h.state.pages.articles senses) c.self.view_is c.senses.ensures in
-    let articles : c.articles.result.now ≡ state.articles = c.articles.ensures ∙ ap (λ (h : Holding). h.state.pages.articles) c.self.view_is in
+    subst (λ (h : Holding). MeanInEach h.state.stored.grammar h.state.stored.words h.state.stored.articles senses) c.self.view_is c.senses.ensures in
+    let articles : c.articles.result.now ≡ state.articles = c.articles.ensures ∙ ap (λ (h : Holding). h.state.stored.articles) c.self.view_is in
     let is : plain_parts parts ≡ parts_in c.args.taken state.articles senses =
     c.in_ok-push_articles.ensures
     ∙ ap (λ (ps : List Part). plain_parts ps ++ parts_in c.args.taken c.articles.result.now senses) c.new-parts.ensures

@@ -1,21 +1,17 @@
-use Rattle.std.proofs.Common.{ℕ, ◌+◌, ap}
 use Rattle.sessions.specs.Sessions.{plain}
-use Rattle.wiki_talk.specs.declared.replies.Reply.TheVariants as replies
-use Rattle.wiki_core.specs.Holding.{Holding}
-use Rattle.wiki_core.specs.Causes.{NamesNoSession, IsFullOfTokens, IsNotOffered}
-use Rattle.wiki_core.proofs.CommitLemmas.{none_of_three}
+use Rattle.wiki_parts.specs.Faults.{IsAbsent}
+use Rattle.wiki_parts.specs.Spending.{IsCutOff}
+use Rattle.plain_wiki.specs.Causes.{is_not_offered}
+use Rattle.plain_wiki.specs.Places.{session_numbered}
+use Rattle.wiki_core.proofs.NamedLemmas.{of_it}
+use Rattle.wiki_core.proofs.SessionLemmas.{type_step}
 use Rattle.wiki_core.proofs.wiki.Wiki.type_token.Goals as goal
 
 pub returns-clause-step : goal.returns-clause-step
 returns-clause-step c =
-    let state = c.args.self.now.state in
-    let n = c.args.number in (
-      none_of_three (NamesNoSession state n) (IsFullOfTokens state n) (IsNotOffered state n c.args.text.now) c.in_ok-session.ensures.absent
-          c.in_ok-count.ensures.absent c.in_ok-put.ensures.absent,
-      record {
-        session = plain c.in_ok-session.session.now;
-        named = c.in_ok-session.ensures.found;
-        answer = ap (λ (k : ℕ). replies.Put (k + 1)) c.in_ok-count.ensures.count;
-        after = ap (λ (h : Holding). h.state) c.in_ok-put.ensures.typed;
-      },
-    )
+    let old = c.args.self.now in
+    let session = plain c.in_ok-session.session.now in
+    type_step (IsCutOff old.budget) old c.put.new.self c.args.number c.args.text.now session c.in_ok-count.count c.in_ok-session.ensures.found
+    c.in_ok-count.ensures.count c.in_ok-put.ensures.typed c.in_ok-count.ensures.absent
+    (of_it (session_numbered old.state c.args.number) (λ s. IsAbsent (is_not_offered old.state.stored s c.args.text.now)) session c.in_ok-session.ensures.found
+    c.in_ok-put.ensures.absent)

@@ -5,16 +5,15 @@ use Rattle.articles.specs.declared.article.Article.{Article}
 use Rattle.wiki_parts.specs.declared.meanings.Sense.{Sense}
 use Rattle.wiki_parts.specs.Holding.{Holding}
 use Rattle.wiki_parts.specs.Kept.{IsKeeping}
-use Rattle.wiki_parts.specs.State.{State}
-use Rattle.wiki_parts.specs.Words.{forms_given}
+use Rattle.plain_wiki.specs.State.{Stored}
+use Rattle.plain_wiki.specs.Words.{forms_given}
 use Rattle.wiki_store.proofs.WordKeeping.{keeps_added}
 use Rattle.wiki_store.proofs.base.Base.add.Goals as goal
 
 pub invariant_of-self-in-Ok : goal.invariant_of-self-in-Ok
 invariant_of-self-in-Ok c =
-    let inside : State = record {
+    let inside : Stored = record {
       grammar = c.self.inside.grammar;
-      budget = c.self.inside.budget;
       words = c.self.inside.lexicon;
       articles = c.self.inside.articles;
     } in

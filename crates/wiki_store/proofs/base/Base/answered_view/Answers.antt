@@ -3,17 +3,18 @@ use Rattle.codeco_terms.specs.GrammarParts.{GrammarParts}
 use Rattle.derivation_trees.specs.Cutting.{shown}
 use Rattle.logic_terms.specs.Shown.{concept_of}
 use Rattle.wiki_parts.specs.Holding.{Holding}
-use Rattle.wiki_parts.specs.State.{State}
-use Rattle.wiki_parts.specs.Telling.{AreAnswersTo, TellsNoName, spelled}
+use Rattle.wiki_parts.specs.Spending.{IsCutOff}
+use Rattle.plain_wiki.specs.State.{Stored}
+use Rattle.plain_wiki.specs.Telling.{AreAnswersTo, TellsNoName, spelled}
 use Rattle.wiki_store.specs.Spending.{KeptHasDoubts}
 use Rattle.wiki_store.proofs.base.Base.answered_view.Goals as goal
 
 pub returns-clause-tells : goal.returns-clause-tells
 returns-clause-tells c =
-    let state : State = c.args.self.now.state in
+    let state : Stored = c.args.self.now.state in
     let tokens = c.args.sentence.now.tokens in
     let answers = c.args.answers.now in
-    let told : AreAnswersTo state tokens c.in_ok-spelled.field-0 c.in_ok-spelled-2.field-0 =
+    let told : AreAnswersTo (IsCutOff c.args.self.now.budget) state tokens c.in_ok-spelled.field-0 c.in_ok-spelled-2.field-0 =
     record {
       concept = concept_of c.args.class.now;
       means = c.requires.means;
@@ -31,7 +32,7 @@ returns-clause-tells c =
           ∙ ap (λ (g : GrammarParts). shown g.terminals tokens)
           (c.grammar-grammar.ensures.grammar ∙ ap (λ (h : Holding). h.state.grammar) c.self.view_is);
       names =
-          subst (λ (b : Bool). MatchBool b (AreAnswersTo state tokens c.in_ok-spelled.field-0 c.in_ok-spelled-2.field-0)
+          subst (λ (b : Bool). MatchBool b (AreAnswersTo (IsCutOff c.args.self.now.budget) state tokens c.in_ok-spelled.field-0 c.in_ok-spelled-2.field-0)
           (TellsNoName (record {
             status = c.args.sentence.now.status;
             text = c.in_ok-show.field-0;

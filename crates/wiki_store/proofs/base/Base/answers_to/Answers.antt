@@ -8,9 +8,10 @@ use Rattle.logic_terms.specs.Shown.{concept_of}
 use Rattle.owl_eval.specs.declared.checked.CheckedModel.{CheckedModel}
 use Rattle.owl_eval.specs.Checked.{kept_claims, kept_interp}
 use Rattle.wiki_parts.specs.Holding.{Holding}
-use Rattle.wiki_parts.specs.Knowledge.{Answer, live_names, Knows}
-use Rattle.wiki_parts.specs.Meanings.{asking, Means}
-use Rattle.wiki_parts.specs.State.{State}
+use Rattle.wiki_parts.specs.Spending.{IsCutOff}
+use Rattle.plain_wiki.specs.Knowledge.{Answer, live_names, Knows}
+use Rattle.plain_wiki.specs.Meanings.{asking, Means}
+use Rattle.plain_wiki.specs.State.{Stored}
 use Rattle.wiki_parts.proofs.KnownLemmas.{knows_from_known}
 use Rattle.wiki_parts.proofs.OverLemmas.{answers_over, answers_plain}
 use Rattle.wiki_store.proofs.ReadLemmas.{are-answers}
@@ -40,9 +41,8 @@ answers_of-requires-clause-plain c =
 
 pub answers_of-requires-clause-absorbed : goal.answers_of-requires-clause-absorbed
 answers_of-requires-clause-absorbed c =
-    let inside : State = record {
+    let inside : Stored = record {
       grammar = c.self.inside.grammar;
-      budget = c.self.inside.budget;
       words = c.self.inside.lexicon;
       articles = c.self.inside.articles;
     } in
@@ -55,9 +55,8 @@ answers_of-requires-clause-absorbed c =
 
 pub returns : goal.returns
 returns c =
-    let inside : State = record {
+    let inside : Stored = record {
       grammar = c.self.inside.grammar;
-      budget = c.self.inside.budget;
       words = c.self.inside.lexicon;
       articles = c.self.inside.articles;
     } in
@@ -65,11 +64,12 @@ returns c =
     let known : Knows inside claims =
     subst (Knows inside) (sym c.self.invariant.0.known)
     (knows_from_known c.self.inside.grammar c.self.inside.lexicon c.self.inside.articles c.self.inside.senses.items c.self.invariant.0.mean) in
-    are-answers (record { state = inside; interpretation = kept_interp c.self.inside.kept }) c.args.self.now c.self.view_is claims known c.args.names.now
+    are-answers (record { state = inside; budget = c.self.inside.budget; interpretation = kept_interp c.self.inside.kept }) c.args.self.now c.self.view_is
+    claims known c.args.names.now
     c.requires.names (concept_of c.args.class.now) c.answers_of.result
     (subst
     (λ (kept : CheckedModel). IfOk c.answers_of.result
-    (λ a. Answer (kept_claims kept) c.args.names.now c.self.inside.budget (concept_of c.args.class.now) a.yes a.unknown))
+    (λ a. Answer (kept_claims kept) c.args.names.now (IsCutOff c.self.inside.budget) (concept_of c.args.class.now) a.yes a.unknown))
     c.model.ensures
     c.answers_of.ensures.answer)
     (subst

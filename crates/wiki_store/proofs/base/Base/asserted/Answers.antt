@@ -1,17 +1,16 @@
 use Rattle.std.proofs.Common.{List, sym, subst}
 use Rattle.logic_terms.specs.Concept.{Claim}
 use Rattle.owl_eval.specs.Checked.{kept_claims}
-use Rattle.wiki_parts.specs.State.{State}
+use Rattle.plain_wiki.specs.State.{Stored}
 use Rattle.wiki_parts.specs.Holding.{Holding}
-use Rattle.wiki_parts.specs.Knowledge.{Knows}
+use Rattle.plain_wiki.specs.Knowledge.{Knows}
 use Rattle.wiki_parts.proofs.KnownLemmas.{knows_from_known}
 use Rattle.wiki_store.proofs.base.Base.asserted.Goals as goal
 
 pub returns : goal.returns
 returns c =
-    let inside : State = record {
+    let inside : Stored = record {
       grammar = c.self.inside.grammar;
-      budget = c.self.inside.budget;
       words = c.self.inside.lexicon;
       articles = c.self.inside.articles;
     } in

@@ -7,8 +7,8 @@ use Rattle.logic_terms.specs.Concept.{Claim}
 use Rattle.logic_terms.specs.Known.{theory_of}
 use Rattle.owl_eval.specs.Checked.{kept_claims}
 use Rattle.wiki_parts.specs.Holding.{Holding}
-use Rattle.wiki_parts.specs.Knowledge.{live_names, Knows}
-use Rattle.wiki_parts.specs.State.{State}
+use Rattle.plain_wiki.specs.Knowledge.{live_names, Knows}
+use Rattle.plain_wiki.specs.State.{Stored}
 use Rattle.wiki_parts.proofs.KnownLemmas.{knows_from_known}
 use Rattle.wiki_parts.proofs.MeaningLemmas.{knows_one}
 use Rattle.wiki_parts.proofs.OverLemmas.{verdict_over}
@@ -24,9 +24,8 @@ absorb-requires c =
 
 pub returns : goal.returns
 returns c other knows =
-    let inside : State = record {
+    let inside : Stored = record {
       grammar = c.self.inside.grammar;
-      budget = c.self.inside.budget;
       words = c.self.inside.lexicon;
       articles = c.self.inside.articles;
     } in

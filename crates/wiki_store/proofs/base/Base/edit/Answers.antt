@@ -3,15 +3,15 @@ use Rattle.derivation_trees.specs.Cutting.{shown}
 use Rattle.wiki_store.proofs.StepLemmas.{edits-step, edits-spent}
 use Rattle.wiki_store.proofs.base.Base.edit.Goals as goal
 
-pub returns-clause-step : goal.returns-clause-step
-returns-clause-step c =
-    edits-step c.args.self.now c.args.form.now c.in_ok-change.change c.in_ok-status.status c.put.new.self c.in_ok-change.ensures.named
-    c.in_ok-status.ensures.made c.args.text.now c.in_ok-change.ensures.tokens c.is_kept.ensures.in_order c.in_ok-change.ensures.can.place c.args.at
-    c.in_ok-change.ensures.from c.in_ok-change.ensures.to c.in_ok-shown.shown c.in_ok-change.ensures.free
+pub returns-clause-does : goal.returns-clause-does
+returns-clause-does c =
+    edits-step c.args.self.now c.args.form.now c.in_ok-change.change c.in_ok-status.status c.put.new.self c.in_ok-status.ensures.made c.args.text.now
+    c.in_ok-change.ensures.tokens c.in_ok-change.ensures.named c.is_kept.ensures.in_order c.in_ok-change.ensures.can.place c.args.at
+    c.in_ok-change.ensures.from c.in_ok-change.ensures.to c.in_ok-shown.shown
     (c.in_ok-shown.ensures ∙ ap (λ (ts : List (List ℕ)). shown c.args.self.now.state.grammar.terminals ts) c.get.ensures)
 
 pub returns-clause-spent : goal.returns-clause-spent
 returns-clause-spent c =
-    edits-spent c.args.self.now c.args.form.now c.in_ok-change.change c.in_ok-status.status c.put.new.self c.in_ok-change.ensures.named
-    c.in_ok-status.ensures.made c.args.text.now c.in_ok-change.ensures.tokens c.is_kept.ensures.in_order c.in_ok-change.ensures.can.place c.args.at
+    edits-spent c.args.self.now c.args.form.now c.in_ok-change.change c.in_ok-status.status c.put.new.self c.in_ok-status.ensures.made c.args.text.now
+    c.in_ok-change.ensures.tokens c.in_ok-change.ensures.named c.is_kept.ensures.in_order c.in_ok-change.ensures.can.place c.args.at
     c.in_ok-change.ensures.from c.in_ok-change.ensures.to c.in_ok-shown.shown

@@ -8,16 +8,15 @@ use Rattle.owl_eval.specs.Checked.{kept_claims}
 use Rattle.wiki_parts.specs.Holding.{Holding}
 use Rattle.wiki_parts.specs.Kept.{MeanEach, meanings_in}
 use Rattle.wiki_parts.specs.declared.meanings.Sense.{Sense}
-use Rattle.wiki_parts.specs.State.{State}
+use Rattle.plain_wiki.specs.State.{Stored}
 use Rattle.wiki_store.specs.PuttingBack.{IsOfArticle}
 use Rattle.wiki_store.proofs.PutBackLemmas.{of_article}
 use Rattle.wiki_store.proofs.base.Base.keep.Goals as goal
 
 pub returns-in_ok-shared-in-Some : goal.returns-in_ok-shared-in-Some
 returns-in_ok-shared-in-Some c =
-    let inside : State = record {
+    let inside : Stored = record {
       grammar = c.self.inside.grammar;
-      budget = c.self.inside.budget;
       words = c.self.inside.lexicon;
       articles = c.self.inside.articles;
     } in
@@ -32,7 +31,8 @@ returns-in_ok-shared-in-Some c =
       interp = c.in_ok-shared-in-Some.field-0;
     }))
     c.self.view_is
-    (of_article inside c.self.inside.senses.items c.self.inside.kept c.self.invariant.0 c.len.ensures.in_order c.args.word c.in_ok-copy-in-Some.field-0
+    (of_article inside c.self.inside.budget c.self.inside.senses.items c.self.inside.kept c.self.invariant.0 c.len.ensures.in_order c.args.word
+    c.in_ok-copy-in-Some.field-0
     c.in_ok-copy-in-Some-2.field-0 c.in_ok-shared-in-Some.field-0 there
     (λ a found. subst (λ (senses : List Sense). MeanEach inside.grammar inside.words a.sentences (meanings_in senses)) (sym c.in_ok-copy-in-Some-2.ensures)
     (subst

@@ -9,8 +9,8 @@ use Rattle.owl_eval.specs.Checked.{kept_interp, kept_claims}
 use Rattle.wiki_parts.specs.declared.meanings.Sense.{Sense}
 use Rattle.wiki_parts.specs.Holding.{Holding}
 use Rattle.wiki_parts.specs.Kept.{known_of, known_in, meanings_in}
-use Rattle.wiki_parts.specs.Knowledge.{Knows}
-use Rattle.wiki_parts.specs.State.{State}
+use Rattle.plain_wiki.specs.Knowledge.{Knows}
+use Rattle.plain_wiki.specs.State.{Stored}
 use Rattle.wiki_store.specs.PuttingBack.{with_sentences, CanBePut}
 use Rattle.wiki_store.proofs.ChangeLemmas.{place-within}
 use Rattle.wiki_store.proofs.InsideLemmas.{each-ok, moved}
@@ -25,15 +25,14 @@ model_with-requires-clause-many c =
 
 pub model_with-requires-clause-model : goal.model_with-requires-clause-model
 model_with-requires-clause-model c =
-    let inside : State = record {
+    let inside : Stored = record {
       grammar = c.self.inside.grammar;
-      budget = c.self.inside.budget;
       words = c.self.inside.lexicon;
       articles = c.self.inside.articles;
     } in
     let ordered : AreInOrder c.self.inside.articles = c.as_slice-articles.ensures.in_order in
     let is : IsPlaceOf c.self.inside.articles c.args.kept.now.article c.place-place.result =
-    place-within inside (kept_interp c.self.inside.kept) c.args.self.now c.self.view_is c.self.inside.senses.items c.self.inside.kept
+    place-within inside c.self.inside.budget (kept_interp c.self.inside.kept) c.args.self.now c.self.view_is c.self.inside.senses.items c.self.inside.kept
     c.self.invariant.0 ordered c.args.kept.now.article c.place-place.result c.place-place.ensures in
     let can : CanBePut inside c.args.kept.now = subst (λ (h : Holding). CanBePut h.state c.args.kept.now) (sym c.self.view_is) c.requires in
     rw (c.as_slice-articles.ensures.articles, c.deref.ensures.value)
@@ -41,15 +40,14 @@ model_with-requires-clause-model c =
 
 pub returns-clause-known : goal.returns-clause-known
 returns-clause-known c =
-    let inside : State = record {
+    let inside : Stored = record {
       grammar = c.self.inside.grammar;
-      budget = c.self.inside.budget;
       words = c.self.inside.lexicon;
       articles = c.self.inside.articles;
     } in
     let ordered : AreInOrder c.self.inside.articles = c.as_slice-articles.ensures.in_order in
     let is : IsPlaceOf c.self.inside.articles c.args.kept.now.article c.place-place.result =
-    place-within inside (kept_interp c.self.inside.kept) c.args.self.now c.self.view_is c.self.inside.senses.items c.self.inside.kept
+    place-within inside c.self.inside.budget (kept_interp c.self.inside.kept) c.args.self.now c.self.view_is c.self.inside.senses.items c.self.inside.kept
     c.self.invariant.0 ordered c.args.kept.now.article c.place-place.result c.place-place.ensures in
     let can : CanBePut inside c.args.kept.now = subst (λ (h : Holding). CanBePut h.state c.args.kept.now) (sym c.self.view_is) c.requires in
     let parts : List Article → List (List Sense) → List Claim =

@@ -8,8 +8,8 @@ use Rattle.owl_eval.specs.declared.checked.CheckedModel.{CheckedModel}
 use Rattle.owl_eval.specs.Checked.{kept_interp, kept_claims}
 use Rattle.wiki_parts.specs.Holding.{Holding}
 use Rattle.wiki_parts.specs.Kept.{IsKeeping}
-use Rattle.wiki_parts.specs.Knowledge.{Knows}
-use Rattle.wiki_parts.specs.State.{State}
+use Rattle.plain_wiki.specs.Knowledge.{Knows}
+use Rattle.plain_wiki.specs.State.{Stored}
 use Rattle.wiki_store.specs.PuttingBack.{with_sentences, CanBePut}
 use Rattle.wiki_store.proofs.ChangeLemmas.{place-within, below-within}
 use Rattle.wiki_store.proofs.PutBackLemmas.{keeps_put}
@@ -17,13 +17,13 @@ use Rattle.wiki_store.proofs.base.Base.put_back.Goals as goal
 
 pub returns-then-as_slice-place-clause-exactly : goal.returns-then-as_slice-place-clause-exactly
 returns-then-as_slice-place-clause-exactly c =
-    let inside : State = record {
+    let inside : Stored = record {
       grammar = c.self.inside.grammar;
-      budget = c.self.inside.budget;
       words = c.self.inside.lexicon;
       articles = c.self.inside.articles;
     } in
-    let is = place-within inside (kept_interp c.self.inside.kept) c.args.self.now c.self.view_is c.self.inside.senses.items c.self.inside.kept
+    let is = place-within inside c.self.inside.budget (kept_interp c.self.inside.kept) c.args.self.now c.self.view_is c.self.inside.senses.items
+    c.self.inside.kept
     c.self.invariant.0 c.as_slice.ensures.in_order c.args.kept.article c.place-place.result c.place-place.ensures in
     let article = c.index-as_slice-place.result in
     let found : article_of c.self.inside.articles c.args.kept.article ≡ Some article =
@@ -39,13 +39,13 @@ returns-then-as_slice-place-clause-exactly c =
 
 pub exchange-requires : goal.exchange-requires
 exchange-requires c =
-    let inside : State = record {
+    let inside : Stored = record {
       grammar = c.self.inside.grammar;
-      budget = c.self.inside.budget;
       words = c.self.inside.lexicon;
       articles = c.self.inside.articles;
     } in
-    let is = place-within inside (kept_interp c.self.inside.kept) c.args.self.now c.self.view_is c.self.inside.senses.items c.self.inside.kept
+    let is = place-within inside c.self.inside.budget (kept_interp c.self.inside.kept) c.args.self.now c.self.view_is c.self.inside.senses.items
+    c.self.inside.kept
     c.self.invariant.0 c.as_slice.ensures.in_order c.args.kept.article c.place-place.result c.place-place.ensures in
     let article = c.index-as_slice-place.result in
     let found : article_of c.self.inside.articles c.args.kept.article ≡ Some article =
@@ -56,25 +56,24 @@ exchange-requires c =
 
 pub index_mut-requires : goal.index_mut-requires
 index_mut-requires c =
-    let inside : State = record {
+    let inside : Stored = record {
       grammar = c.self.inside.grammar;
-      budget = c.self.inside.budget;
       words = c.self.inside.lexicon;
       articles = c.self.inside.articles;
     } in
     subst (λ (n : ℕ). c.place-place.result < n) (sym c.self.inside.senses.ok.0)
-    (below-within inside (kept_interp c.self.inside.kept) c.args.self.now c.self.view_is c.self.inside.senses.items c.self.inside.kept
+    (below-within inside c.self.inside.budget (kept_interp c.self.inside.kept) c.args.self.now c.self.view_is c.self.inside.senses.items c.self.inside.kept
     c.self.invariant.0 c.as_slice.ensures.in_order c.args.kept.article c.place-place.result c.place-place.ensures)
 
 pub invariant_of-self : goal.invariant_of-self
 invariant_of-self c =
-    let inside : State = record {
+    let inside : Stored = record {
       grammar = c.self.inside.grammar;
-      budget = c.self.inside.budget;
       words = c.self.inside.lexicon;
       articles = c.self.inside.articles;
     } in
-    let is = place-within inside (kept_interp c.self.inside.kept) c.args.self.now c.self.view_is c.self.inside.senses.items c.self.inside.kept
+    let is = place-within inside c.self.inside.budget (kept_interp c.self.inside.kept) c.args.self.now c.self.view_is c.self.inside.senses.items
+    c.self.inside.kept
     c.self.invariant.0 c.as_slice.ensures.in_order c.args.kept.article c.place-place.result c.place-place.ensures in
     let can : CanBePut inside c.args.kept = subst (λ (h : Holding). CanBePut h.state c.args.kept) (sym c.self.view_is) c.requires.can in
     let known : Knows (with_sentences inside c.args.kept.article c.args.kept.sentences) (kept_claims c.args.model) =
@@ -90,13 +89,13 @@ invariant_of-self c =
 
 pub returns-clause-exactly : goal.returns-clause-exactly
 returns-clause-exactly c =
-    let inside : State = record {
+    let inside : Stored = record {
       grammar = c.self.inside.grammar;
-      budget = c.self.inside.budget;
       words = c.self.inside.lexicon;
       articles = c.self.inside.articles;
     } in
-    let is = place-within inside (kept_interp c.self.inside.kept) c.args.self.now c.self.view_is c.self.inside.senses.items c.self.inside.kept
+    let is = place-within inside c.self.inside.budget (kept_interp c.self.inside.kept) c.args.self.now c.self.view_is c.self.inside.senses.items
+    c.self.inside.kept
     c.self.invariant.0 c.as_slice.ensures.in_order c.args.kept.article c.place-place.result c.place-place.ensures in
     let article = c.index-as_slice-place.result in
     let found : article_of c.self.inside.articles c.args.kept.article ≡ Some article =

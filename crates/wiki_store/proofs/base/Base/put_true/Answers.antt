@@ -5,7 +5,7 @@ use Rattle.logic_terms.specs.Interpretation.{Interpretation}
 use Rattle.logic_terms.specs.Reading.{IsModel}
 use Rattle.owl_eval.specs.Checked.{kept_interp, kept_claims}
 use Rattle.wiki_talk.specs.declared.statuses.Status.TheVariants.{Asserted}
-use Rattle.wiki_parts.specs.State.{State}
+use Rattle.plain_wiki.specs.State.{Stored}
 use Rattle.wiki_parts.specs.Holding.{Holding}
 use Rattle.wiki_parts.specs.Found.{meaning_shown}
 use Rattle.wiki_parts.specs.Kept.{stated_by, known_around}
@@ -40,15 +40,14 @@ invariant_of-self c =
 
 pub returns-in_err-joined-clause-memory : goal.returns-in_err-joined-clause-memory
 returns-in_err-joined-clause-memory c =
-    let inside : State = record {
+    let inside : Stored = record {
       grammar = c.self.inside.grammar;
-      budget = c.self.inside.budget;
       words = c.self.inside.lexicon;
       articles = c.self.inside.articles;
     } in
-    let after : Holding = record { state = inside; interpretation = kept_interp c.join.new.kept } in
+    let after : Holding = record { state = inside; budget = c.self.inside.budget; interpretation = kept_interp c.join.new.kept } in
     OnErr_any {P = after ≡ c.args.self.now} c.from_residual-in_err-joined.result
-    (ap (λ (i : Interpretation). record { state = inside; interpretation = i }) c.join.ensures.interp ∙ c.self.view_is)
+    (ap (λ (i : Interpretation). record { state = inside; budget = c.self.inside.budget; interpretation = i }) c.join.ensures.interp ∙ c.self.view_is)
 
 pub store-requires-clause-open : goal.store-requires-clause-open
 store-requires-clause-open c =

@@ -1,15 +1,14 @@
 use Rattle.std.proofs.Common.{sym, subst, ◌∙◌}
 use Rattle.wiki_parts.specs.Holding.{Holding}
-use Rattle.wiki_parts.specs.State.{State}
+use Rattle.plain_wiki.specs.State.{Stored}
 use Rattle.wiki_store.specs.Rewording.{KeepsSentences}
 use Rattle.wiki_store.proofs.WordKeeping.{keeps_regrounded}
 use Rattle.wiki_store.proofs.base.Base.regrounded.Goals as goal
 
 pub invariant_of-self : goal.invariant_of-self
 invariant_of-self c =
-    let inside : State = record {
+    let inside : Stored = record {
       grammar = c.self.inside.grammar;
-      budget = c.self.inside.budget;
       words = c.self.inside.lexicon;
       articles = c.self.inside.articles;
     } in

@@ -1,15 +1,10 @@
-use Rattle.std.proofs.Common.{◌≡◌, ◌+◌, ◌≤◌, ℕ, List, Some, length, sym, ap, subst, ◌∙◌, arith}
-use Rattle.std.specs.List.{slice_get}
-use Rattle.std.specs.Option.{option_and_then}
+use Rattle.std.proofs.Common.{◌+◌, ◌≤◌, ℕ, List, length, sym, subst, arith}
 use Rattle.std.proofs.lemmas.List.{length-map}
-use Rattle.wiki_base.specs.declared.numbers.WordId.{WordId}
 use Rattle.wiki_base.specs.declared.tokens.TheConstants.{MOST_TOKENS}
-use Rattle.articles.specs.declared.article.Article.{Article}
-use Rattle.articles.specs.Articles.{sentence_at}
 use Rattle.wiki_parts.specs.declared.meanings.Sense.{Sense}
 use Rattle.wiki_parts.specs.Found.{meaning_shown}
 use Rattle.wiki_parts.specs.Kept.{meanings_in}
-use Rattle.wiki_parts.specs.Meanings.{Means}
+use Rattle.plain_wiki.specs.Meanings.{Means}
 use Rattle.wiki_store.proofs.JudgeLemmas.{means-at}
 use Rattle.wiki_store.proofs.KeepingLemmas.{as_many}
 use Rattle.wiki_store.proofs.StepLemmas.{can-change, has-place}
@@ -17,8 +12,8 @@ use Rattle.wiki_store.proofs.base.Base.restated.Goals as goal
 
 pub get-requires : goal.get-requires
 get-requires c =
-    let mean = c.senses_of-senses.ensures c.article-article.result.now c.article-article.ensures.article in
-    let many = as_many c.args.self.now.state.grammar c.args.self.now.state.words c.article-article.result.now.sentences
+    let mean = c.senses_of-senses.ensures c.in_ok-article.article.now c.in_ok-article.ensures.there in
+    let many = as_many c.args.self.now.state.grammar c.args.self.now.state.words c.in_ok-article.article.now.sentences
     (meanings_in c.senses_of-senses.result.now) mean in
     let same = length-map c.senses_of-senses.result.now meaning_shown in
     omega (arith, many, same, c.in_ok-sentence.ensures.within)
@@ -26,23 +21,18 @@ get-requires c =
 pub returns-clause-can : goal.returns-clause-can
 returns-clause-can c =
     let state = c.args.self.now.state in
-    let article = c.article-article.result.now in
+    let article = c.in_ok-article.article.now in
     let sentence = c.in_ok-sentence.sentence.now in
-    let here : slice_get article.sentences c.args.at ≡ Some sentence =
-    sym (ap (option_and_then (λ (w : WordId). sentence_at state.articles w c.args.at)) c.in_ok-word.ensures.ok
-    ∙ ap (option_and_then (λ (a : Article). slice_get a.sentences c.args.at)) c.article-article.ensures.article)
-    ∙ c.in_ok-sentence.ensures.here in
     record {
-      changes = can-change state.articles c.in_ok-word.word article c.article-article.ensures.article c.in_ok-open.ensures.open;
+      changes = can-change state.articles article.word article c.in_ok-article.ensures.there c.in_ok-can_change.ensures.open;
       rises = omega arith;
       narrow = omega arith;
-      place =
-          has-place state.articles c.in_ok-word.word article (c.args.at + 1) c.article-article.ensures.article (omega (arith, c.in_ok-sentence.ensures.within));
+      place = has-place state.articles article.word article (c.args.at + 1) c.in_ok-article.ensures.there (omega (arith, c.in_ok-sentence.ensures.within));
       room = λ same. absurd (omega (arith, same));
       few = subst (λ (ts : List (List ℕ)). length ts ≤ MOST_TOKENS) (sym c.in_ok-copy.ensures) c.in_ok-sentence.ensures.stored.few;
       means =
           subst (λ (m : Sense). Means state.grammar state.words c.in_ok-copy.field-0 (meaning_shown m)) (sym c.in_ok-copy-2.ensures)
           (subst (λ (ts : List (List ℕ)). Means state.grammar state.words ts (meaning_shown c.get.result.now)) (sym c.in_ok-copy.ensures)
           (means-at state.grammar state.words article.sentences c.senses_of-senses.result.now c.args.at sentence c.get.result.now
-          (c.senses_of-senses.ensures article c.article-article.ensures.article) here c.get.ensures));
+          (c.senses_of-senses.ensures article c.in_ok-article.ensures.there) c.in_ok-sentence.ensures.here c.get.ensures));
     }

@@ -6,16 +6,15 @@ use Rattle.owl_eval.specs.Checked.{kept_interp, kept_claims}
 use Rattle.wiki_parts.specs.declared.meanings.Sense.{Sense}
 use Rattle.wiki_parts.specs.Holding.{Holding}
 use Rattle.wiki_parts.specs.Kept.{known_around, known_in, IsAround, IsKeeping}
-use Rattle.wiki_parts.specs.Refusing.{may_retract}
-use Rattle.wiki_parts.specs.State.{State}
+use Rattle.plain_wiki.specs.Causes.{may_retract}
+use Rattle.plain_wiki.specs.State.{Stored}
 use Rattle.wiki_store.proofs.ChangeLemmas.{place-within, around-within, keeps_marked}
 use Rattle.wiki_store.proofs.base.Base.retract.Goals as goal
 
 pub leave-requires-clause-there : goal.leave-requires-clause-there
 leave-requires-clause-there c =
-    let inside : State = record {
+    let inside : Stored = record {
       grammar = c.self.inside.grammar;
-      budget = c.self.inside.budget;
       words = c.self.inside.lexicon;
       articles = c.self.inside.articles;
     } in
@@ -24,7 +23,7 @@ leave-requires-clause-there c =
     let place = c.place-place.result in
     let at = c.args.at in
     let around : IsAround inside.articles senses place at (at + 1) =
-    around-within inside (kept_interp c.self.inside.kept) c.args.self.now c.self.view_is senses c.self.inside.kept c.self.invariant.0
+    around-within inside c.self.inside.budget (kept_interp c.self.inside.kept) c.args.self.now c.self.view_is senses c.self.inside.kept c.self.invariant.0
     c.as_slice.ensures.in_order word place c.place-place.ensures at
     c.in_ok-word.ensures.place in
     subst (λ (articles : List Article). IsAround articles c.deref.result.now place at (at + 1)) (sym c.as_slice.ensures.articles)
@@ -38,9 +37,8 @@ leave-requires-clause-known c =
 
 pub invariant_of-self : goal.invariant_of-self
 invariant_of-self c =
-    let inside : State = record {
+    let inside : Stored = record {
       grammar = c.self.inside.grammar;
-      budget = c.self.inside.budget;
       words = c.self.inside.lexicon;
       articles = c.self.inside.articles;
     } in
@@ -49,10 +47,11 @@ invariant_of-self c =
     let place = c.place-place.result in
     let at = c.args.at in
     let around : IsAround inside.articles senses place at (at + 1) =
-    around-within inside (kept_interp c.self.inside.kept) c.args.self.now c.self.view_is senses c.self.inside.kept c.self.invariant.0
+    around-within inside c.self.inside.budget (kept_interp c.self.inside.kept) c.args.self.now c.self.view_is senses c.self.inside.kept c.self.invariant.0
     c.as_slice.ensures.in_order word place c.place-place.ensures at
     c.in_ok-word.ensures.place in
-    let is = place-within inside (kept_interp c.self.inside.kept) c.args.self.now c.self.view_is senses c.self.inside.kept c.self.invariant.0
+    let is = place-within inside c.self.inside.budget (kept_interp c.self.inside.kept) c.args.self.now c.self.view_is senses c.self.inside.kept
+    c.self.invariant.0
     c.as_slice.ensures.in_order word place c.place-place.ensures in
     let claims : kept_claims c.leave.new.kept ≡ known_around inside.articles senses place at [] (at + 1) =
     c.leave.ensures.left ∙ ap (λ (articles : List Article). known_around articles c.deref.result.now place at [] (at + 1)) c.as_slice.ensures.articles

@@ -5,18 +5,18 @@ use Rattle.articles.specs.declared.article.Article.{Article}
 use Rattle.wiki_parts.specs.declared.meanings.Sense.{Sense}
 use Rattle.wiki_parts.specs.Holding.{Holding}
 use Rattle.wiki_parts.specs.Kept.{MeanInEach}
-use Rattle.wiki_parts.specs.Places.{all_placed}
-use Rattle.wiki_parts.specs.Refusing.{KeepsMeaning}
-use Rattle.wiki_parts.specs.State.{State, IsSound}
+use Rattle.plain_wiki.specs.Places.{all_placed}
+use Rattle.plain_wiki.specs.Causes.{KeepsMeaning}
+use Rattle.plain_wiki.specs.State.{Stored}
+use Rattle.wiki_parts.specs.Sound.{IsSound}
 use Rattle.wiki_store.specs.Rewording.{PassesOthers, FindsPlace}
 use Rattle.wiki_store.proofs.FindLemmas.{place_lives, broken_place, finds_none, passed_place}
 use Rattle.wiki_store.proofs.base.Base.unbroken.Goals as goal
 
 pub breaks-requires : goal.breaks-requires
 breaks-requires c =
-    let inside : State = record {
+    let inside : Stored = record {
       grammar = c.self.inside.grammar;
-      budget = c.self.inside.budget;
       words = c.self.inside.lexicon;
       articles = c.self.inside.articles;
     } in
@@ -43,9 +43,8 @@ breaks-requires c =
 
 pub returns-in_ok-breaks-in-Some-clause-refused : goal.returns-in_ok-breaks-in-Some-clause-refused
 returns-in_ok-breaks-in-Some-clause-refused c =
-    let inside : State = record {
+    let inside : Stored = record {
       grammar = c.self.inside.grammar;
-      budget = c.self.inside.budget;
       words = c.self.inside.lexicon;
       articles = c.self.inside.articles;
     } in
@@ -72,9 +71,8 @@ returns-in_ok-breaks-in-Some-clause-refused c =
 
 pub returns-in-None-clause-keep : goal.returns-in-None-clause-keep
 returns-in-None-clause-keep c =
-    let inside : State = record {
+    let inside : Stored = record {
       grammar = c.self.inside.grammar;
-      budget = c.self.inside.budget;
       words = c.self.inside.lexicon;
       articles = c.self.inside.articles;
     } in

@@ -6,7 +6,8 @@ use Rattle.articles.specs.Places.{IsPlaceOf}
 use Rattle.wiki_parts.specs.declared.meanings.Sense.{Sense}
 use Rattle.wiki_parts.specs.Holding.{Holding}
 use Rattle.wiki_parts.specs.Kept.{IsKeeping}
-use Rattle.wiki_parts.specs.State.{State, IsSound}
+use Rattle.plain_wiki.specs.State.{Stored}
+use Rattle.wiki_parts.specs.Sound.{IsSound}
 use Rattle.wiki_store.specs.Rewording.{IsGone}
 use Rattle.wiki_store.proofs.KeepingLemmas.{as_many_lists}
 use Rattle.wiki_store.proofs.RewordLemmas.{lives_by, has_article}
@@ -22,9 +23,8 @@ place-place-requires c =
 
 pub remove-requires : goal.remove-requires
 remove-requires c =
-    let inside : State = record {
+    let inside : Stored = record {
       grammar = c.self.inside.grammar;
-      budget = c.self.inside.budget;
       words = c.self.inside.lexicon;
       articles = c.self.inside.articles;
     } in
@@ -43,9 +43,8 @@ end-requires c =
 
 pub invariant_of-self : goal.invariant_of-self
 invariant_of-self c =
-    let inside : State = record {
+    let inside : Stored = record {
       grammar = c.self.inside.grammar;
-      budget = c.self.inside.budget;
       words = c.self.inside.lexicon;
       articles = c.self.inside.articles;
     } in

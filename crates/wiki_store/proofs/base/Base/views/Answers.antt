@@ -4,7 +4,8 @@ use Rattle.std.proofs.lemmas.List.{length-map}
 use Rattle.wiki_talk.specs.declared.replies.SentenceView.{SentenceView}
 use Rattle.wiki_parts.specs.Found.{meaning_shown}
 use Rattle.wiki_parts.specs.Kept.{meanings_in}
-use Rattle.wiki_parts.specs.Telling.{TellsSentence}
+use Rattle.plain_wiki.specs.Telling.{TellsSentence}
+use Rattle.wiki_parts.specs.Spending.{IsCutOff}
 use Rattle.wiki_store.specs.Spending.{KeptHasUnknown}
 use Rattle.wiki_store.proofs.KeepingLemmas.{as_many}
 use Rattle.wiki_store.proofs.ReadLemmas.{meant-at, told-more}
@@ -33,9 +34,11 @@ pub loop-place-preserved : goal.loop-place-preserved
 loop-place-preserved c =
     record {
       tells =
-          subst (λ (views : List SentenceView). AllZip (TellsSentence c.args.self.now.state) (take (c.loop-place.place + 1) c.args.sentences.now) views)
+          subst (λ (views : List SentenceView). AllZip (TellsSentence (IsCutOff c.args.self.now.budget) c.args.self.now.state)
+          (take (c.loop-place.place + 1) c.args.sentences.now) views)
           (sym c.in_ok-push.ensures.ok)
-          (told-more (TellsSentence c.args.self.now.state) c.args.sentences.now c.loop-place.views c.loop-place.place c.index-sentences-place.result
+          (told-more (TellsSentence (IsCutOff c.args.self.now.budget) c.args.self.now.state) c.args.sentences.now c.loop-place.views c.loop-place.place
+          c.index-sentences-place.result
           c.in_ok-view.field-0
           c.loop-place.invariant.tells c.loop-place-test.true c.index-sentences-place.is c.in_ok-view.ensures.tells);
       unknown =

@@ -1,7 +1,7 @@
 use Rattle.std.proofs.Common.{subst}
 use Rattle.logic_terms.specs.Shown.{claims_of}
 use Rattle.wiki_parts.specs.Holding.{Holding}
-use Rattle.wiki_parts.specs.Knowledge.{Knows}
+use Rattle.plain_wiki.specs.Knowledge.{Knows}
 use Rattle.wiki_store.proofs.store.Store.asserted.Goals as goal
 
 pub returns : goal.returns

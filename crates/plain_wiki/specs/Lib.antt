@@ -1,0 +1,12 @@
+pub mod Against
+pub mod Causes
+pub mod Doing
+pub mod Knowledge
+pub mod Meanings
+pub mod Parsing
+pub mod Places
+pub mod Sessions
+pub mod State
+pub mod Step
+pub mod Telling
+pub mod Words
